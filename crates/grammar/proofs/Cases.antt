@@ -1,0 +1,89 @@
+-- Patterns of each refusal and each limit, read by computation; each tells paper 01's rule from a mistake that is near it.
+-- Assumes nothing.
+use mathlib.Core.Path.{_≡_, refl}
+use Prim.Native.Nat.{ℕ, zero, suc}
+use mathlib.Core.List.{List, [], _∷_, map}
+use lib.ListN.{replicate}
+use Rattle.theory.specs.Pattern.{count, number}
+use Rattle.grammar.specs.Grammar.{kind, inside}
+use Rattle.grammar.specs.Limits.{heaviest, weight}
+use Rattle.grammar.specs.WriteOut.{writeOut, shape, chain, optional}
+use Rattle.grammar.specs.Refusals.{Answer, accepted, refused}
+use Rattle.grammar.specs.Code.Tokens.{nodes}
+use Rattle.grammar.specs.Code.Reader.{read, loop, readItems}
+
+-- A pattern, and what is to come of it: a refusal's number and place, or 0 and the leaves of the written-out pattern.
+record Case : Type 0 where
+  pattern : List ℕ
+  number-due : ℕ
+  place-due : ℕ
+
+abbrev case : ℕ → ℕ → List ℕ → Case
+case n q p = record { pattern = p; number-due = n; place-due = q }
+
+abbrev numberOf : Answer → ℕ
+numberOf (accepted t) = 0
+numberOf (refused n q) = n
+
+abbrev placeOf : Answer → ℕ
+placeOf (accepted t) = count (writeOut t)
+placeOf (refused n q) = q
+
+abbrev cases : List Case
+cases =
+    case 2 2 (97 ∷ 42 ∷ 42 ∷ [])  -- a**
+    ∷ case 2 0 (41 ∷ [])  -- )
+    ∷ case 2 0 (93 ∷ [])  -- ]
+    ∷ case 2 1 (97 ∷ 125 ∷ [])  -- a}
+    ∷ case 2 0 (94 ∷ 97 ∷ [])  -- ^a
+    ∷ case 2 1 (97 ∷ 36 ∷ [])  -- a$
+    ∷ case 2 2 (97 ∷ 124 ∷ 63 ∷ [])  -- a|?
+    ∷ case 2 1 (40 ∷ 43 ∷ 41 ∷ [])  -- (+)
+    ∷ case 2 0 (123 ∷ [])  -- {
+    ∷ case 2 4 (97 ∷ 123 ∷ 50 ∷ 125 ∷ 123 ∷ [])  -- a{2}{
+    ∷ case 3 1 (97 ∷ 92 ∷ [])  -- a\
+    ∷ case 3 0 (92 ∷ 97 ∷ [])  -- \a
+    ∷ case 4 1 (97 ∷ 91 ∷ [])  -- a[
+    ∷ case 4 0 (91 ∷ 93 ∷ [])  -- []
+    ∷ case 4 0 (91 ∷ 122 ∷ 45 ∷ 97 ∷ 93 ∷ [])  -- [z-a]
+    ∷ case 4 0 (91 ∷ 91 ∷ 58 ∷ 97 ∷ 58 ∷ 93 ∷ 93 ∷ [])  -- [[:a:]]
+    ∷ case 5 1 (97 ∷ 123 ∷ 50 ∷ 44 ∷ 49 ∷ 125 ∷ [])  -- a{2,1}
+    ∷ case 5 1 (97 ∷ 123 ∷ 54 ∷ 52 ∷ 125 ∷ [])  -- a{64}
+    ∷ case 5 1 (97 ∷ 123 ∷ 44 ∷ 51 ∷ 125 ∷ [])  -- a{,3}
+    ∷ case 6 2 (97 ∷ 40 ∷ [])  -- a(
+    ∷ case 7 16 (replicate 17 40)  -- 17 times (
+    ∷ case 8 7 (97 ∷ 123 ∷ 54 ∷ 51 ∷ 125 ∷ 98 ∷ 99 ∷ [])  -- a{63}bc
+    ∷ case 8 8 (40 ∷ 97 ∷ 97 ∷ 41 ∷ 123 ∷ 51 ∷ 51 ∷ 125 ∷ [])  -- (aa){33}
+    ∷ case 8 12 (40 ∷ 97 ∷ 123 ∷ 54 ∷ 51 ∷ 125 ∷ 98 ∷ 43 ∷ 41 ∷ 123 ∷ 48 ∷ 125 ∷ [])  -- (a{63}b+){0}
+    ∷ case 1 255 (replicate 256 40)  -- 256 times (
+    ∷ case 0 0 []  -- the empty pattern
+    ∷ case 0 64 (97 ∷ 123 ∷ 54 ∷ 51 ∷ 125 ∷ 98 ∷ [])  -- a{63}b
+    ∷ case 0 63 (97 ∷ 123 ∷ 48 ∷ 44 ∷ 54 ∷ 51 ∷ 125 ∷ [])  -- a{0,63}
+    ∷ case 0 3 (97 ∷ 123 ∷ 50 ∷ 44 ∷ 125 ∷ [])  -- a{2,}
+    ∷ case 0 1 (91 ∷ 91 ∷ 58 ∷ 100 ∷ 105 ∷ 103 ∷ 105 ∷ 116 ∷ 58 ∷ 93 ∷ 93 ∷ [])  -- [[:digit:]]
+    ∷ case 0 1 (91 ∷ 94 ∷ 92 ∷ 93 ∷ 45 ∷ 92 ∷ 94 ∷ 93 ∷ [])  -- [^\]-\^]
+    ∷ []
+
+pub numbers-due : map (λ c. numberOf (read (c .pattern))) cases ≡ map (λ c. c .number-due) cases
+unfolding read loop kind inside readItems heaviest weight
+numbers-due = refl
+
+pub places-due : map (λ c. placeOf (read (c .pattern))) cases ≡ map (λ c. c .place-due) cases
+unfolding read loop kind inside readItems heaviest weight writeOut shape chain optional number count
+places-due = refl
+
+-- The most parts: ((..(a?)?..)?){0,63} with 16 brackets, and another such part with `?` for the count. The bound of `nodes-2303` is reached.
+abbrev nest : ℕ → List ℕ → List ℕ
+nest zero s = 97 ∷ 63 ∷ s
+nest (suc n) s = 40 ∷ nest n (41 ∷ 63 ∷ s)
+
+abbrev largest : List ℕ
+largest = 40 ∷ nest 15 (41 ∷ 123 ∷ 48 ∷ 44 ∷ 54 ∷ 51 ∷ 125 ∷ nest 16 [])
+
+abbrev size : Answer → ℕ
+size (accepted t) = nodes (writeOut t)
+size (refused n q) = 0
+
+pub most-nodes : size (read largest) ≡ 2303
+unfolding read loop kind inside readItems heaviest weight nodes writeOut shape chain optional number count
+most-nodes = refl

@@ -1,0 +1,14 @@
+-- The laws of the definitions, in reading order.
+pub mod Cases
+pub mod Sets
+-- The reader's answer is right, and nothing else is.
+pub mod Bytes
+pub mod Pieces
+pub mod Sound
+pub mod Unique
+pub mod Adequate
+pub mod Place
+-- The written-out pattern: its leaves and parts, and its tokens.
+pub mod Size
+pub mod Tokens
+pub mod Suffix

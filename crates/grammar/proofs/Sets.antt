@@ -1,0 +1,69 @@
+-- Each named set is its bit of the table: one test over all entries, computed, and the rule at each entry from it.
+-- Assumes nothing.
+use mathlib.Core.Path.{_≡_, refl, ap, _∙_}
+use Prim.Native.Nat.{ℕ, zero, suc, _+_, _/_, _%_, _<_}
+use mathlib.Core.Bool.{Bool, true, false, _&&_}
+use mathlib.Core.List.{map}
+use native.Mathlib.Omega.{arith}
+use native.Mathlib.Decide.{ℕ-discrete}
+use lib.ListN.{getD}
+use lib.Dec.{T, eqb}
+use Rattle.theory.specs.Standing.{from}
+use Rattle.grammar.specs.Grammar.{Name, alpha, digit, alnum, upper, lower, xdigit, space, punct}
+use Rattle.grammar.specs.Sets.{inPosix, bitOf, names, entry, setTable, inNamed}
+
+-- Entry b of a table of the numbers from n on.
+pub map-from : (f : ℕ → ℕ) (n d b : ℕ) → b < d → getD (map f (from n d)) b 0 ≡ f (n + b)
+map-from f n zero b h = absurd (omega arith)
+map-from f n (suc d) zero h = let e : n ≡ n + 0 = omega arith in ap f e
+map-from f n (suc d) (suc b) h = let e : suc n + b ≡ n + suc b = omega arith in map-from f (suc n) d b (omega arith) ∙ ap f e
+
+pub table-entry : (b : ℕ) → b < 256 → getD setTable b 0 ≡ entry names b
+unfolding setTable
+table-entry b h = let e : 0 + b ≡ b = omega arith in map-from (entry names) 0 256 b h ∙ ap (entry names) e
+
+same : Bool → Bool → Bool
+same true c = c
+same false true = false
+same false false = true
+
+same-eq : (a b : Bool) → T (same a b) → a ≡ b
+unfolding same
+same-eq true true t = refl
+same-eq true false t = absurd t
+same-eq false true t = absurd t
+same-eq false false t = refl
+
+both : (a b : Bool) → T (a && b) → T a × T b
+both true b t = (tt, t)
+both false b t = absurd t
+
+-- The entries below d have the set n's bit just where the set has the byte.
+agree : Name → ℕ → Bool
+agree n zero = true
+agree n (suc d) = same (eqb (entry names d / bitOf n % 2) 1) (inPosix n d) && agree n d
+
+agree-at : (n : Name) (d b : ℕ) → T (agree n d) → b < d → eqb (entry names b / bitOf n % 2) 1 ≡ inPosix n b
+unfolding agree
+agree-at n zero b t h = absurd (omega arith)
+agree-at n (suc d) b t h =
+    let (here, below) = both (same (eqb (entry names d / bitOf n % 2) 1) (inPosix n d)) (agree n d) t in
+    elim (ℕ-discrete b d) [
+      | yes q ↦ rw q (same-eq (eqb (entry names d / bitOf n % 2) 1) (inPosix n d) here)
+      | no q ↦ agree-at n d b below (omega arith)
+    ]
+
+all-agree : (n : Name) → T (agree n 256)
+unfolding agree same
+all-agree alpha = tt
+all-agree digit = tt
+all-agree alnum = tt
+all-agree upper = tt
+all-agree lower = tt
+all-agree xdigit = tt
+all-agree space = tt
+all-agree punct = tt
+
+-- THE TABLE HAS THE POSIX LOCALE'S SETS.
+pub named-posix : (n : Name) (b : ℕ) → b < 256 → inNamed setTable n b ≡ inPosix n b
+named-posix n b h = rw (table-entry b h) (agree-at n 256 b (all-agree n) h)

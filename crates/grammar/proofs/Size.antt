@@ -1,0 +1,235 @@
+-- The written-out pattern of a pattern within the limits: its leaves are numbered from 0, at most 64, and its nodes are at most 2303.
+-- Assumes nothing.
+use mathlib.Core.Path.{_≡_, refl, sym, ap}
+use Prim.Native.Nat.{ℕ, zero, suc, _+_, _*_, _-_, _≤_, max}
+use mathlib.Core.Bool.{Bool, true, false, _&&_}
+use mathlib.Core.List.{List, [], _∷_, _++_}
+use native.Mathlib.Omega.{arith}
+use native.Mathlib.Nat.{zero-mul, suc-mul, one-mul, mul-add, add-mul, mul-assoc, mul-le-mul-left, mul-le-mul-right}
+use lib.ListN.{replicate}
+use lib.Dec.{leb, leb→le, T}
+use Rattle.theory.specs.Pattern.{Re, empty, leaf, seq, alt, star, count, Numbered, number}
+use Rattle.theory.proofs.Numbering.{number-count, number-right}
+use Rattle.grammar.specs.Grammar.{Digits, digitsValue, Repeat, once, many, more, maybe, exactly, atLeast, between, Alternation, last, or, Sequence, nothing, part, Atom, byte, dot, class, group, WfAlternation, WfSequence, WfAtom, WfRepeat}
+use Rattle.grammar.specs.Limits.{depth, depthSequence, depthAtom, times, repeated, weight, weights, weightAtom, heaviest, Reads}
+use Rattle.grammar.specs.Code.Tokens.{nodes}
+use Rattle.grammar.specs.WriteOut.{chain, optional, repeatOf, shape, parts, shapeAtom, writeOut}
+
+pub writeOut-numbered : (t : Alternation) → Numbered 0 (writeOut t)
+unfolding writeOut
+writeOut-numbered t = number-right 0 (shape t)
+
+number-nodes : (n : ℕ) (r : Re) → nodes (number n r) ≡ nodes r
+unfolding number nodes
+number-nodes n empty = refl
+number-nodes n (leaf p s) = refl
+number-nodes n (seq x y) = rw (number-nodes n x, number-nodes (n + count x) y)
+number-nodes n (alt x y) = rw (number-nodes n x, number-nodes (n + count x) y)
+number-nodes n (star x) = rw (number-nodes n x)
+
+-- A measure that a sequence adds up: the leaves (with e = 0), and the nodes with one more for each part.
+leaves : List Re → ℕ
+leaves [] = 0
+leaves (x ∷ l) = count x + leaves l
+
+count-chain : (x : Re) (l : List Re) → count (chain (x ∷ l)) ≡ leaves (x ∷ l)
+unfolding chain count leaves
+count-chain x [] = omega arith
+count-chain x (y ∷ l) = rw (count-chain y l) refl
+
+count-chain-le : (l : List Re) → count (chain l) ≡ leaves l
+unfolding chain count leaves
+count-chain-le [] = refl
+count-chain-le (x ∷ l) = count-chain x l
+
+leaves-append : (l m : List Re) → leaves (l ++ m) ≡ leaves l + leaves m
+unfolding leaves
+leaves-append [] m = omega arith
+leaves-append (x ∷ l) m = omega (arith, leaves-append l m)
+
+leaves-copies : (n : ℕ) (x : Re) → leaves (replicate n x) ≡ n * count x
+unfolding leaves
+leaves-copies zero x = sym (zero-mul (count x))
+leaves-copies (suc n) x = omega (arith, leaves-copies n x, suc-mul n (count x))
+
+leaves-optional : (k : ℕ) (x : Re) → leaves (optional k x) ≡ k * count x
+unfolding leaves optional count
+leaves-optional zero x = sym (zero-mul (count x))
+leaves-optional (suc k) x = omega (arith, count-chain x (optional k x), leaves-optional k x, suc-mul k (count x))
+
+times-le : (n c w : ℕ) → c ≤ w → n * c ≤ times n w
+times-le zero c w h = omega (arith, zero-mul c)
+times-le (suc n) c w h = mul-le-mul-left (suc n) h
+
+both : (a b : Bool) → a && b ≡ true → T a
+both true b e = tt
+both false b e = let z : _≡_ {A = ℕ} 0 1 = cc in absurd (omega arith)
+
+count-sum : (m n : Digits) → WfRepeat (between m n) → digitsValue m + (digitsValue n - digitsValue m) ≡ digitsValue n
+count-sum m n v = omega (arith, leb→le (digitsValue m) (digitsValue n) (both (leb (digitsValue m) (digitsValue n)) (leb (digitsValue n) 63) (v .2)))
+
+count-repeat : (r : Repeat) (x : Re) (w : ℕ) → WfRepeat r → count x ≤ w → count (repeatOf r x) ≤ repeated r w
+unfolding count leaves
+count-repeat once x w v h = h
+count-repeat many x w v h = h
+count-repeat more x w v h = omega (arith, count-chain x (star x ∷ []))
+count-repeat maybe x w v h = omega arith
+count-repeat (exactly m) x w v h = rw (count-chain-le (replicate (digitsValue m) x), leaves-copies (digitsValue m) x) (times-le (digitsValue m) (count x) w h)
+count-repeat (atLeast m) x w v h =
+    rw (count-chain-le (replicate (digitsValue m) x ++ (star x ∷ [])), leaves-append (replicate (digitsValue m) x) (star x ∷ []), leaves-copies (digitsValue m) x)
+    (omega (arith, mul-le-mul-left (suc (digitsValue m)) h, suc-mul (digitsValue m) (count x)))
+count-repeat (between m n) x w v h =
+    rw (count-chain-le (replicate (digitsValue m) x ++ optional (digitsValue n - digitsValue m) x), leaves-append (replicate (digitsValue m) x) (optional (digitsValue n - digitsValue m) x), leaves-copies (digitsValue m) x, leaves-optional (digitsValue n - digitsValue m) x)
+    (omega (arith, times-le (digitsValue n) (count x) w h, add-mul (digitsValue m) (digitsValue n - digitsValue m) (count x), ap (λ k. k * count x) (count-sum m n v)))
+
+weight-pos : (t : Alternation) → 1 ≤ weight t
+unfolding weight
+weight-pos (last q) = omega arith
+weight-pos (or q t) = omega arith
+
+mutual
+  unfolding count leaves shape weight
+
+  count-alternation : (t : Alternation) → WfAlternation t → count (shape t) ≤ weight t
+  count-alternation (last q) w = omega (arith, count-chain-le (parts q), count-parts q w)
+  count-alternation (or q t) w = omega (arith, count-chain-le (parts q), count-parts q (w .0), count-alternation t (w .1))
+
+  count-parts : (q : Sequence) → WfSequence q → leaves (parts q) ≤ weights q
+  count-parts nothing w = omega arith
+  count-parts (part a r q) w = omega (arith, count-repeat r (shapeAtom a) (weightAtom a) (w .1) (count-atom a (w .0)), count-parts q (w .2))
+
+  count-atom : (a : Atom) → WfAtom a → count (shapeAtom a) ≤ weightAtom a
+  count-atom (byte x) w = omega arith
+  count-atom dot w = omega arith
+  count-atom (class c x l) w = omega arith
+  count-atom (group t) w = count-alternation t w
+
+pub weight-heaviest : (t : Alternation) → weight t ≤ heaviest t
+unfolding heaviest
+weight-heaviest (last q) = omega arith
+weight-heaviest (or q t) = omega arith
+
+pub leaves-64 : (p : List ℕ) (t : Alternation) → Reads p t → count (writeOut t) ≤ 64
+unfolding writeOut
+leaves-64 p t h = rw (number-count 0 (shape t)) (omega (arith, count-alternation t (h .formed), weight-heaviest t, h .light))
+
+-- Nodes. One more than the nodes of a part is what a sequence adds up.
+sizes : List Re → ℕ
+sizes [] = 0
+sizes (x ∷ l) = suc (nodes x) + sizes l
+
+nodes-chain : (x : Re) (l : List Re) → suc (nodes (chain (x ∷ l))) ≡ sizes (x ∷ l)
+unfolding chain nodes sizes
+nodes-chain x [] = omega arith
+nodes-chain x (y ∷ l) = omega (arith, nodes-chain y l)
+
+nodes-chain-le : (l : List Re) → suc (nodes (chain l)) ≤ max 2 (sizes l)
+unfolding chain nodes sizes
+nodes-chain-le [] = omega arith
+nodes-chain-le (x ∷ l) = omega (arith, nodes-chain x l)
+
+sizes-append : (l m : List Re) → sizes (l ++ m) ≡ sizes l + sizes m
+unfolding sizes
+sizes-append [] m = omega arith
+sizes-append (x ∷ l) m = omega (arith, sizes-append l m)
+
+sizes-copies : (n : ℕ) (x : Re) → sizes (replicate n x) ≡ n * suc (nodes x)
+unfolding sizes
+sizes-copies zero x = sym (zero-mul (suc (nodes x)))
+sizes-copies (suc n) x = omega (arith, sizes-copies n x, suc-mul n (suc (nodes x)))
+
+sizes-optional : (k : ℕ) (x : Re) → sizes (optional k x) ≡ k * (suc (nodes x) + 2)
+unfolding sizes optional nodes
+sizes-optional zero x = sym (zero-mul (suc (nodes x) + 2))
+sizes-optional (suc k) x = omega (arith, nodes-chain x (optional k x), sizes-optional k x, suc-mul k (suc (nodes x) + 2))
+
+-- n copies against their weight k times.
+copies-le : (n c w k : ℕ) → c ≤ w * k → 2 ≤ w * k → 2 ≤ k → max 2 (n * c) ≤ times n w * k
+copies-le zero c w k h d e = omega (arith, zero-mul c, one-mul k)
+copies-le (suc n) c w k h d e = omega (arith, mul-assoc (suc n) w k, mul-le-mul-left (suc n) h, suc-mul n (w * k))
+
+nodes-repeat : (r : Repeat) (x : Re) (w k : ℕ) → WfRepeat r → suc (nodes x) + 2 ≤ w * k → 2 ≤ k → suc (nodes (repeatOf r x)) ≤ repeated r w * k
+unfolding nodes sizes
+nodes-repeat once x w k v h e = omega arith
+nodes-repeat many x w k v h e = omega arith
+nodes-repeat more x w k v h e = omega (arith, nodes-chain x (star x ∷ []), mul-assoc 2 w k)
+nodes-repeat maybe x w k v h e = omega arith
+nodes-repeat (exactly m) x w k v h e =
+    let d : suc (nodes x) ≤ w * k = omega arith in
+    omega (arith, nodes-chain-le (replicate (digitsValue m) x), sizes-copies (digitsValue m) x, copies-le (digitsValue m) (suc (nodes x)) w k d (omega arith) e)
+nodes-repeat (atLeast m) x w k v h e =
+    let d : suc (nodes x) ≤ w * k = omega arith in
+    omega (
+      arith,
+      nodes-chain-le (replicate (digitsValue m) x ++ (star x ∷ [])),
+      sizes-append (replicate (digitsValue m) x) (star x ∷ []),
+      sizes-copies (digitsValue m) x,
+      mul-le-mul-left (digitsValue m) d,
+      mul-assoc (suc (digitsValue m)) w k,
+      suc-mul (digitsValue m) (w * k),
+    )
+nodes-repeat (between m n) x w k v h e =
+    let d : suc (nodes x) ≤ suc (nodes x) + 2 = omega arith in
+    omega (
+      arith,
+      nodes-chain-le (replicate (digitsValue m) x ++ optional (digitsValue n - digitsValue m) x),
+      sizes-append (replicate (digitsValue m) x) (optional (digitsValue n - digitsValue m) x),
+      sizes-copies (digitsValue m) x,
+      sizes-optional (digitsValue n - digitsValue m) x,
+      mul-le-mul-left (digitsValue m) d,
+      add-mul (digitsValue m) (digitsValue n - digitsValue m) (suc (nodes x) + 2),
+      ap (λ j. j * (suc (nodes x) + 2)) (count-sum m n v),
+      copies-le (digitsValue n) (suc (nodes x) + 2) w k h (omega arith) e,
+    )
+
+at-least : (w k : ℕ) → max k (w * k) ≤ max 1 w * k
+at-least w k =
+    let a : 1 ≤ max 1 w = omega arith in
+    let b : w ≤ max 1 w = omega arith in
+    omega (arith, one-mul k, mul-le-mul-right k a, mul-le-mul-right k b)
+
+deeper : (d : ℕ) → 2 * d + 4 + 2 ≡ 2 * suc d + 4
+deeper d = omega arith
+
+heavy : (p : List ℕ) (t : Alternation) → Reads p t → weight t ≤ 64
+heavy p t h = omega (arith, weight-heaviest t, h .light)
+
+mutual
+  unfolding nodes sizes shape weight
+
+  nodes-alternation : (t : Alternation) (d : ℕ) → WfAlternation t → depth t ≤ d → suc (nodes (shape t)) ≤ weight t * (2 * d + 4)
+  nodes-alternation (last q) d w h =
+      omega (arith, nodes-chain-le (parts q), nodes-parts q d w h, at-least (weights q) (2 * d + 4))
+  nodes-alternation (or q t) d w h =
+      omega (
+        arith,
+        nodes-chain-le (parts q),
+        nodes-parts q d (w .0) (omega arith),
+        at-least (weights q) (2 * d + 4),
+        nodes-alternation t d (w .1) (omega arith),
+        add-mul (max 1 (weights q)) (weight t) (2 * d + 4),
+      )
+
+  nodes-parts : (q : Sequence) (d : ℕ) → WfSequence q → depthSequence q ≤ d → sizes (parts q) ≤ weights q * (2 * d + 4)
+  nodes-parts nothing d w h = omega arith
+  nodes-parts (part a r q) d w h =
+      omega (
+        arith,
+        nodes-repeat r (shapeAtom a) (weightAtom a) (2 * d + 4) (w .1) (nodes-atom a d (w .0) (omega arith)) (omega arith),
+        nodes-parts q d (w .2) (omega arith),
+        add-mul (repeated r (weightAtom a)) (weights q) (2 * d + 4),
+      )
+
+  nodes-atom : (a : Atom) (d : ℕ) → WfAtom a → depthAtom a ≤ d → suc (nodes (shapeAtom a)) + 2 ≤ weightAtom a * (2 * d + 4)
+  nodes-atom (byte x) d w h = omega (arith, one-mul (2 * d + 4))
+  nodes-atom dot d w h = omega (arith, one-mul (2 * d + 4))
+  nodes-atom (class c x l) d w h = omega (arith, one-mul (2 * d + 4))
+  nodes-atom (group t) zero w h = absurd (omega arith)
+  nodes-atom (group t) (suc d) w h =
+      omega (arith, nodes-alternation t d w (omega arith), weight-pos t, mul-add (weight t) (2 * d + 4) 2, ap (λ j. weight t * j) (deeper d))
+
+pub nodes-2303 : (p : List ℕ) (t : Alternation) → Reads p t → nodes (writeOut t) ≤ 2303
+unfolding writeOut
+nodes-2303 p t h =
+    rw (number-nodes 0 (shape t))
+    (omega (arith, nodes-alternation t 16 (h .formed) (h .shallow), mul-le-mul-right 36 (heavy p t h)))

@@ -1,0 +1,3 @@
+-- Definitions in the shape of code.
+pub mod Reader
+pub mod Tokens

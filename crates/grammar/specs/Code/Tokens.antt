@@ -1,0 +1,57 @@
+-- A written-out pattern as a list of tokens, each part after the parts that it has.
+-- Assumes nothing.
+use Prim.Native.Nat.{ℕ, suc, _+_}
+use mathlib.Core.Bool.{Bool}
+use mathlib.Core.List.{List, [], _∷_, _++_}
+use Rattle.theory.specs.Pattern.{Re, empty, leaf, seq, alt, star}
+
+-- How many parts a pattern has, itself included: as many as tokens.
+unfoldable pub nodes : Re → ℕ
+nodes empty = 1
+nodes (leaf p s) = 1
+nodes (seq x y) = suc (nodes x + nodes y)
+nodes (alt x y) = suc (nodes x + nodes y)
+nodes (star x) = suc (nodes x)
+
+pub data Token : Type 0 where
+  nil both or many : Token
+  byte : ℕ → (ℕ → Bool) → Token
+
+unfoldable pub tokens : Re → List Token
+tokens empty = nil ∷ []
+tokens (leaf p s) = byte p s ∷ []
+tokens (seq x y) = tokens x ++ (tokens y ++ (both ∷ []))
+tokens (alt x y) = tokens x ++ (tokens y ++ (or ∷ []))
+tokens (star x) = tokens x ++ (many ∷ [])
+
+-- Read back with a stack.
+unfoldable pub decode : List Token → List Re → List Re
+decode [] k = k
+decode (nil ∷ l) k = decode l (empty ∷ k)
+decode (byte p s ∷ l) k = decode l (leaf p s ∷ k)
+decode (both ∷ l) [] = []
+decode (both ∷ l) (y ∷ []) = []
+decode (both ∷ l) (y ∷ x ∷ k) = decode l (seq x y ∷ k)
+decode (or ∷ l) [] = []
+decode (or ∷ l) (y ∷ []) = []
+decode (or ∷ l) (y ∷ x ∷ k) = decode l (alt x y ∷ k)
+decode (many ∷ l) [] = []
+decode (many ∷ l) (x ∷ k) = decode l (star x ∷ k)
+
+-- The leaves numbered from n on, left to right: one pass over the tokens.
+unfoldable pub renumber : ℕ → List Token → List Token
+renumber n [] = []
+renumber n (nil ∷ l) = nil ∷ renumber n l
+renumber n (both ∷ l) = both ∷ renumber n l
+renumber n (or ∷ l) = or ∷ renumber n l
+renumber n (many ∷ l) = many ∷ renumber n l
+renumber n (byte p s ∷ l) = byte n s ∷ renumber (suc n) l
+
+-- How many leaves.
+unfoldable pub leafs : List Token → ℕ
+leafs [] = 0
+leafs (nil ∷ l) = leafs l
+leafs (both ∷ l) = leafs l
+leafs (or ∷ l) = leafs l
+leafs (many ∷ l) = leafs l
+leafs (byte p s ∷ l) = suc (leafs l)

@@ -1,0 +1,9 @@
+-- Paper 01's grammar, limits, sets, writing out and refusals, in its order. `Code` has the reader as a definition that computes, and the written-out
+-- pattern as tokens; laws tie both to these.
+pub mod Grammar
+pub mod Limits
+pub mod Sets
+pub mod WriteOut
+pub mod Before
+pub mod Refusals
+pub mod Code

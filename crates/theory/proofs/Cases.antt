@@ -1,0 +1,76 @@
+-- Small cases of the definitions, by computation; each tells paper 01's rule from a mistake that is near it.
+-- Assumes nothing.
+use mathlib.Core.Path.{_≡_, refl}
+use Prim.Native.Nat.{ℕ}
+use mathlib.Core.Bool.{true}
+use mathlib.Core.List.{[], _∷_}
+use lib.Dec.{eqb}
+use Rattle.theory.specs.Pattern.{Re, empty, leaf, seq, alt, star, count}
+use Rattle.theory.specs.Outcomes.{emptyTurn, thenLeave, starOutcomes, outcomes}
+use Rattle.theory.specs.Spans.{nowhere, span, greedy, posix}
+use Rattle.theory.specs.Standing.{standing, isWitness}
+
+-- Leaf p of the byte b.
+abbrev byte : ℕ → ℕ → Re
+byte p b = leaf p (eqb b)
+
+-- a|ab
+abbrev short-first : Re
+short-first = alt (byte 0 97) (seq (byte 1 97) (byte 2 98))
+
+-- The first alternative comes first: `a|ab` on ab is 0 1 for greedy, and 0 2 for POSIX.
+pub first-alternative : greedy short-first (97 ∷ 98 ∷ []) ≡ span 0 1
+unfolding greedy outcomes
+first-alternative = refl
+
+pub greatest-end : posix short-first (97 ∷ 98 ∷ []) ≡ span 0 2
+unfolding posix outcomes
+greatest-end = refl
+
+-- The leftmost start counts, not the longest span: `b*` on ab is 0 0.
+pub leftmost-start : posix (star (byte 0 98)) (97 ∷ 98 ∷ []) ≡ span 0 0
+unfolding posix outcomes starOutcomes emptyTurn thenLeave
+leftmost-start = refl
+
+-- A turn that took a byte goes on: `a*` on aa is 0 2.
+pub turns-go-on : greedy (star (byte 0 97)) (97 ∷ 97 ∷ []) ≡ span 0 2
+unfolding greedy outcomes starOutcomes emptyTurn thenLeave
+turns-go-on = refl
+
+-- `a*` ends without a turn: on b it is 0 0.
+pub no-turn : greedy (star (byte 0 97)) (98 ∷ []) ≡ span 0 0
+unfolding greedy outcomes starOutcomes emptyTurn thenLeave
+no-turn = refl
+
+-- The end of an empty turn is dropped: `(|a)*` on aa is 0 2.
+pub empty-turn : greedy (star (alt empty (byte 0 97))) (97 ∷ 97 ∷ []) ≡ span 0 2
+unfolding greedy outcomes starOutcomes emptyTurn thenLeave
+empty-turn = refl
+
+-- The line's end is a start, too: `a*` on the empty line is 0 0, and `a` has none.
+pub last-start : greedy (star (byte 0 97)) [] ≡ span 0 0
+unfolding greedy outcomes starOutcomes emptyTurn thenLeave
+last-start = refl
+
+pub no-start : posix (byte 0 97) [] ≡ nowhere
+unfolding posix outcomes
+no-start = refl
+
+-- (a) is a list in order of first appearance, and no set: of `(ab|a)*` after a it is 1, 0, 2.
+pub order-kept : standing (star (alt (seq (byte 0 97) (byte 1 98)) (byte 2 97))) (97 ∷ []) .order ≡ 1 ∷ 0 ∷ 2 ∷ []
+unfolding standing outcomes starOutcomes emptyTurn thenLeave
+order-kept = refl
+
+-- (c) goes on after the first end: of `a|ab` after a it has leaf 2, and (a) has none.
+pub set-uncut : standing short-first (97 ∷ []) .all ≡ 2 ∷ []
+unfolding standing outcomes count
+set-uncut = refl
+
+pub order-cut : standing short-first (97 ∷ []) .order ≡ []
+unfolding standing outcomes
+order-cut = refl
+
+-- So `a|ab` has the witness ab.
+pub a-witness : isWitness (standing short-first (97 ∷ 98 ∷ [])) ≡ true
+unfolding standing outcomes
+a-witness = refl

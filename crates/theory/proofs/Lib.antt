@@ -1,0 +1,33 @@
+-- The laws of the definitions, in reading order.
+pub mod Cases
+-- Lists, tests, lines.
+pub mod Tests
+pub mod Members
+pub mod Lines
+-- The order of preference: paper 01's equations, and the matching relation.
+pub mod Outcomes
+pub mod Turns
+pub mod Equations
+pub mod Matching
+pub mod Numbering
+-- A line that grows by a byte: the standing goes to the next.
+pub mod Extend
+pub mod Step
+pub mod Ends
+pub mod Bounds
+-- Witnesses and lines cut differently; the search and the records.
+pub mod Cut
+pub mod Search
+pub mod Records
+pub mod Run
+pub mod Groups
+-- Source 000's order of preference and denotations.
+pub mod Ranked
+pub mod Preference
+pub mod Linear
+pub mod Denotation
+pub mod Examples
+-- For code: closures without duplicates, one pass back and one forward.
+pub mod Closure
+pub mod Head
+pub mod Passes

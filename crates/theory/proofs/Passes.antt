@@ -1,0 +1,131 @@
+-- Both spans by one pass back, for the start, and one forward, for the end.
+-- Assumes nothing.
+use mathlib.Core.Path.{_≡_, refl, sym, ap, ap₂, _∙_}
+use Prim.Native.Nat.{ℕ, zero, suc, _+_, _≤_}
+use mathlib.Core.Bool.{Bool, true, false, cond}
+use mathlib.Core.List.{List, [], _∷_, _++_, append-nil, append-assoc}
+use mathlib.Core.Option.{Option, none, some, Option·map}
+use native.Mathlib.Omega.{arith}
+use native.Mathlib.Nat.{add-suc, add-zero}
+use lib.ListN.{length, drop, length-append}
+use Rattle.theory.specs.Pattern.{Re, Numbered, count}
+use Rattle.theory.specs.Outcomes.{Outcome, endsAt, wants, outcomes}
+use Rattle.theory.specs.Code.Follow.{Next, start, hasEnd}
+use Rattle.theory.specs.Standing.{Standing, standing, once, fronts, setOf, wanted, filter, from}
+use Rattle.theory.specs.Code.Next.{next, afters}
+use Rattle.theory.specs.Spans.{firstEnd, greatestEnd, larger, greedy, posix}
+use Rattle.theory.specs.Code.Passes.{forward, farthest, leftmostStart, spanFrom}
+use Rattle.theory.proofs.Extend.{place, outcomes-end}
+use Rattle.theory.proofs.Step.{step, step-start}
+use Rattle.theory.proofs.Ends.{first-moves, greatest-moves}
+use Rattle.theory.proofs.Cut.{from-place, shift-first, shift-greatest}
+use Rattle.theory.proofs.Head.{greedy-from, posix-from, leftmost-some}
+
+-- At the line's end.
+first-place : (n : ℕ) (l : List Next) → firstEnd (place n l) ≡ cond (hasEnd l) (some n) none
+first-place n [] = refl
+first-place n (endsAt u ∷ l) = refl
+first-place n (wants p ∷ l) = first-place n l
+
+larger-self : (n : ℕ) (c : Bool) → larger n (cond c (some n) none) ≡ n
+larger-self n true = omega arith
+larger-self n false = refl
+
+greatest-place : (n : ℕ) (l : List Next) → greatestEnd (place n l) ≡ cond (hasEnd l) (some n) none
+greatest-place n [] = refl
+greatest-place n (endsAt u ∷ l) = ap some (ap (larger n) (greatest-place n l) ∙ larger-self n (hasEnd l))
+greatest-place n (wants p ∷ l) = greatest-place n l
+
+module _ (r : Re) (d : Numbered 0 r) where
+  -- A loop over the rest of the line keeps what it knows of the line so far.
+  module _ (f : Standing → Bool) (e : List (Outcome ℕ) → Option ℕ)
+      (moves : (u : List ℕ) (b : ℕ) → e (outcomes r (u ++ (b ∷ [])) 0) ≡ cond (f (standing r (u ++ (b ∷ [])))) (some (suc (length u))) (e (outcomes r u 0))) where
+    forward-line : (rest u : List ℕ) → forward r f rest (standing r u) (length u) (e (outcomes r u 0)) ≡ e (outcomes r (u ++ rest) 0)
+    unfolding forward
+    forward-line [] u = rw append-nil
+    forward-line (b ∷ rest) u =
+        ap (λ s. forward r f rest s (suc (length u)) (cond (f s) (some (suc (length u))) (e (outcomes r u 0)))) (sym (step r d u b))
+        ∙ ap (λ o. forward r f rest (standing r (u ++ (b ∷ []))) (suc (length u)) o) (sym (moves u b))
+        ∙ ap (λ n. forward r f rest (standing r (u ++ (b ∷ []))) n (e (outcomes r (u ++ (b ∷ [])) 0))) (sym (length-append u (b ∷ []) ∙ add-one))
+        ∙ forward-line rest (u ++ (b ∷ []))
+        ∙ ap (λ w. e (outcomes r w 0)) (append-assoc u (b ∷ []) rest)
+      where
+        add-one : length u + 1 ≡ suc (length u)
+        add-one = omega arith
+
+  -- The places move with the start.
+  forward-shift : (f : Standing → Bool) (j : ℕ) (rest : List ℕ) (s : Standing) (i : ℕ) (o : Option ℕ) → Option·map (λ k. j + k) (forward r f rest s i o) ≡ forward r f rest s (j + i) (Option·map (λ k. j + k) o)
+  unfolding forward
+  forward-shift f j [] s i o = refl
+  forward-shift f j (b ∷ rest) s i o =
+      forward-shift f j rest (next r s b) (suc i) (cond (f (next r s b)) (some (suc i)) o)
+      ∙ ap₂ (forward r f rest (next r s b)) (add-suc j i) (go (f (next r s b)))
+    where
+      go : (c : Bool) → Option·map (λ k. j + k) (cond c (some (suc i)) o) ≡ cond c (some (suc (j + i))) (Option·map (λ k. j + k) o)
+      go true = ap some (add-suc j i)
+      go false = refl
+
+  shift-start : (c : Bool) (j : ℕ) → Option·map (λ k. j + k) (cond c (some 0) none) ≡ cond c (some j) none
+  shift-start true j = ap some (add-zero j)
+  shift-start false j = refl
+
+  first-start : firstEnd (outcomes r [] 0) ≡ cond (standing r [] .first) (some 0) none
+  first-start = ap firstEnd (outcomes-end r []) ∙ first-place 0 (start r) ∙ ap (λ s. cond (s .first) (some 0) none) (sym (step-start r))
+
+  greatest-start : greatestEnd (outcomes r [] 0) ≡ cond (standing r [] .some) (some 0) none
+  greatest-start = ap greatestEnd (outcomes-end r []) ∙ greatest-place 0 (start r) ∙ ap (λ s. cond (s .some) (some 0) none) (sym (step-start r))
+
+  -- THE GREEDY END FROM THE PLACE i IS THE LAST PLACE WHERE (b) HOLDS, AND THE POSIX END THE LAST WHERE (d) HOLDS.
+  pub greedy-end : (w : List ℕ) (i : ℕ) → i ≤ length w → firstEnd (outcomes r w i) ≡ farthest r (λ s. s .first) (drop i w) i
+  greedy-end w i h =
+      ap firstEnd (from-place r w i h)
+      ∙ shift-first i (outcomes r (drop i w) 0)
+      ∙ ap (Option·map (λ k. i + k)) (sym (forward-line (λ s. s .first) firstEnd (λ u b. first-moves r d u b) (drop i w) []))
+      ∙ forward-shift (λ s. s .first) i (drop i w) (standing r []) 0 (firstEnd (outcomes r [] 0))
+      ∙ ap₂ (forward r (λ s. s .first) (drop i w) (standing r [])) (add-zero i) (ap (Option·map (λ k. i + k)) first-start ∙ shift-start (standing r [] .first) i)
+
+  pub posix-end : (w : List ℕ) (i : ℕ) → i ≤ length w → greatestEnd (outcomes r w i) ≡ farthest r (λ s. s .some) (drop i w) i
+  posix-end w i h =
+      ap greatestEnd (from-place r w i h)
+      ∙ shift-greatest i (outcomes r (drop i w) 0)
+      ∙ ap (Option·map (λ k. i + k)) (sym (forward-line (λ s. s .some) greatestEnd (λ u b. greatest-moves r d u b) (drop i w) []))
+      ∙ forward-shift (λ s. s .some) i (drop i w) (standing r []) 0 (greatestEnd (outcomes r [] 0))
+      ∙ ap₂ (forward r (λ s. s .some) (drop i w) (standing r [])) (add-zero i) (ap (Option·map (λ k. i + k)) greatest-start ∙ shift-start (standing r [] .some) i)
+
+  -- Where nothing is wanted any more the pass may stop.
+  pub greedy-stop : (rest : List ℕ) (s : Standing) (i : ℕ) (o : Option ℕ) → s .order ≡ [] → forward r (λ s. s .first) rest s i o ≡ o
+  unfolding forward next
+  greedy-stop [] s i o e = refl
+  greedy-stop (b ∷ rest) s i o e =
+      greedy-stop rest (next r s b) (suc i) (cond (next r s b .first) (some (suc i)) o) (ap (λ l. once (fronts (afters r b l))) e)
+      ∙ ap (λ l. cond (hasEnd (afters r b l)) (some (suc i)) o) e
+
+  none-set : setOf r [] ≡ []
+  none-set = go 0 (count r)
+    where
+      go : (n d : ℕ) → filter (λ p. false) (from n d) ≡ []
+      go n zero = refl
+      go n (suc d) = go (suc n) d
+
+  pub posix-stop : (rest : List ℕ) (s : Standing) (i : ℕ) (o : Option ℕ) → s .all ≡ [] → forward r (λ s. s .some) rest s i o ≡ o
+  unfolding forward next
+  posix-stop [] s i o e = refl
+  posix-stop (b ∷ rest) s i o e =
+      posix-stop rest (next r s b) (suc i) (cond (next r s b .some) (some (suc i)) o) (ap (λ l. setOf r (wanted (afters r b l))) e ∙ none-set)
+      ∙ ap (λ l. cond (hasEnd (afters r b l)) (some (suc i)) o) e
+
+-- BOTH SPANS: one pass back for the start, one forward for the end.
+spanFrom-same : (e f : ℕ → Option ℕ) (o : Option ℕ) → ((i : ℕ) → o ≡ some i → e i ≡ f i) → spanFrom e o ≡ spanFrom f o
+spanFrom-same e f none h = refl
+spanFrom-same e f (some i) h = rw (h i refl)
+
+module _ (r : Re) (d : Numbered 0 r) (w : List ℕ) where
+  pub greedy-passes : greedy r w ≡ spanFrom (λ i. farthest r (λ s. s .first) (drop i w) i) (leftmostStart r w)
+  greedy-passes =
+      greedy-from r d w
+      ∙ spanFrom-same (λ i. firstEnd (outcomes r w i)) (λ i. farthest r (λ s. s .first) (drop i w) i) (leftmostStart r w) (λ i e. greedy-end r d w i (leftmost-some r d w i e .0))
+
+  pub posix-passes : posix r w ≡ spanFrom (λ i. farthest r (λ s. s .some) (drop i w) i) (leftmostStart r w)
+  posix-passes =
+      posix-from r d w
+      ∙ spanFrom-same (λ i. greatestEnd (outcomes r w i)) (λ i. farthest r (λ s. s .some) (drop i w) i) (leftmostStart r w) (λ i e. posix-end r d w i (leftmost-some r d w i e .0))

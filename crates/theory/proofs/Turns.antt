@@ -1,0 +1,79 @@
+-- The laws of r*'s two choices: what an empty turn leaves in the list, and where the end without a turn stands.
+-- The other laws of the order of preference look into neither, so that either may change here alone.
+-- Assumes nothing.
+use mathlib.Core.Path.{_≡_, refl}
+use mathlib.Core.Logic.{_⊎_, inl, inr}
+use Prim.Native.Nat.{ℕ}
+use mathlib.Core.Bool.{Bool, true, false, cond}
+use mathlib.Core.List.{List, [], _∷_}
+use lib.Dec.{T, eqb, eqb→eq, eqb-refl, ltb}
+use Rattle.theory.specs.Outcomes.{Outcome, endsAt, replace, emptyTurn, afterTurn, thenLeave}
+use Rattle.theory.specs.Standing.{someIs}
+use Rattle.theory.proofs.Tests.{or-left, or-cases, either}
+use Rattle.theory.proofs.Outcomes.{AllOut, none, end, replace-append, all-append, some-in, some-cases, some-left, some-right}
+
+module _ {K : Type 0} {P : K → Type 0} {Q : ℕ → Type 0} where
+  pub all-emptyTurn : (i : K) → P i → AllOut P Q (emptyTurn i)
+  unfolding emptyTurn
+  all-emptyTurn i h = none
+
+  pub all-thenLeave : {l : List (Outcome K)} (i : K) → AllOut P Q l → P i → AllOut P Q (thenLeave l i)
+  unfolding thenLeave
+  all-thenLeave i h c = all-append h (end c none)
+
+-- Moved to other places, by h, they are what they are at those.
+module _ {K L : Type 0} (h : K → L) (g : ℕ → List (Outcome L)) where
+  pub replace-emptyTurn : (i : K) → replace (λ k. endsAt (h k) ∷ []) g (emptyTurn i) ≡ emptyTurn (h i)
+  unfolding emptyTurn
+  replace-emptyTurn i = refl
+
+  pub replace-thenLeave : (l : List (Outcome K)) (i : K) → replace (λ k. endsAt (h k) ∷ []) g (thenLeave l i) ≡ thenLeave (replace (λ k. endsAt (h k) ∷ []) g l) (h i)
+  unfolding thenLeave
+  replace-thenLeave l i = replace-append (λ k. endsAt (h k) ∷ []) g l (endsAt i ∷ [])
+
+-- The ends of r* are those of its turns, and i.
+pub some-leave : (i : ℕ) (l : List (Outcome ℕ)) → T (someIs i (thenLeave l i))
+unfolding thenLeave
+some-leave i l = some-right i l (endsAt i ∷ []) (or-left (eqb i i) false (eqb-refl i))
+
+pub some-turns : (i k : ℕ) (l : List (Outcome ℕ)) → T (someIs k l) → T (someIs k (thenLeave l i))
+unfolding thenLeave
+some-turns i k l t = some-left k l (endsAt i ∷ []) t
+
+pub some-star : (i k : ℕ) (l : List (Outcome ℕ)) → T (someIs k (thenLeave l i)) → T (someIs k l) ⊎ (i ≡ k)
+unfolding thenLeave
+some-star i k l t = either inl (λ m. inr (either (λ e. eqb→eq i k e) (λ n. absurd n) (or-cases (eqb i k) false m))) (some-cases k l (endsAt i ∷ []) t)
+
+-- An empty turn ends nowhere but at i.
+pub some-emptyTurn : (i k : ℕ) → T (someIs k (emptyTurn i)) → i ≡ k
+some-emptyTurn i k t = some-in (all-emptyTurn {P = λ j. i ≡ j} {Q = λ p. Unit {0}} i refl) k t
+
+-- A turn that ends at k.
+pub all-afterTurn : {P Q : ℕ → Type 0} {l : List (Outcome ℕ)} (i k : ℕ) → P i → (T (ltb i k) → AllOut P Q l) → AllOut P Q (afterTurn i k l)
+all-afterTurn {P} {Q} {l} i k c = go (ltb i k)
+  where
+    go : (t : Bool) → (T t → AllOut P Q l) → AllOut P Q (cond t l (emptyTurn i))
+    go true h = h tt
+    go false h = all-emptyTurn i c
+
+pub afterTurn-congr : {l m : List (Outcome ℕ)} (i k : ℕ) → (T (ltb i k) → l ≡ m) → afterTurn i k l ≡ afterTurn i k m
+afterTurn-congr {l} {m} i k = go (ltb i k)
+  where
+    go : (t : Bool) → (T t → l ≡ m) → cond t l (emptyTurn i) ≡ cond t m (emptyTurn i)
+    go true h = h tt
+    go false h = refl
+
+pub replace-afterTurn : (h : ℕ → ℕ) (g : ℕ → List (Outcome ℕ)) (i k : ℕ) (l : List (Outcome ℕ)) → ltb (h i) (h k) ≡ ltb i k
+    → replace (λ j. endsAt (h j) ∷ []) g (afterTurn i k l) ≡ afterTurn (h i) (h k) (replace (λ j. endsAt (h j) ∷ []) g l)
+replace-afterTurn h g i k l e = rw e (go (ltb i k))
+  where
+    go : (t : Bool) → replace (λ j. endsAt (h j) ∷ []) g (cond t l (emptyTurn i)) ≡ cond t (replace (λ j. endsAt (h j) ∷ []) g l) (emptyTurn (h i))
+    go true = refl
+    go false = replace-emptyTurn h g i
+
+pub some-afterTurn : (i k j : ℕ) (l : List (Outcome ℕ)) → T (someIs j (afterTurn i k l)) → (T (ltb i k) × T (someIs j l)) ⊎ (i ≡ j)
+some-afterTurn i k j l = go (ltb i k)
+  where
+    go : (t : Bool) → T (someIs j (cond t l (emptyTurn i))) → (T t × T (someIs j l)) ⊎ (i ≡ j)
+    go true m = inl (tt, m)
+    go false m = inr (some-emptyTurn i j m)

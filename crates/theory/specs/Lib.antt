@@ -1,0 +1,11 @@
+-- Paper 01's definitions, in its order: the written-out pattern, the order of preference, starts and spans, standings, lines and records.
+-- `Matching` and `Preference` are source document 000's. `Code` has the definitions in the shape of code, which laws tie to these.
+pub mod Pattern
+pub mod Outcomes
+pub mod Matching
+pub mod Spans
+pub mod Standing
+pub mod Lines
+pub mod Records
+pub mod Preference
+pub mod Code

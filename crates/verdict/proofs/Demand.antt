@@ -1,0 +1,70 @@
+-- What a right answer of the checker says of the pattern.
+-- Assumes nothing.
+use mathlib.Core.Path.{_≡_}
+use mathlib.Core.Logic.{_⊎_, inl, inr, _↔_}
+use Prim.Native.Nat.{ℕ, _≤_}
+use mathlib.Core.List.{List}
+use lib.ListN.{length, take, drop}
+use Rattle.theory.specs.Lines.{Below, _≺_}
+use Rattle.theory.proofs.Tests.{either}
+use Rattle.grammar.specs.Grammar.{Alternation}
+use Rattle.grammar.specs.Limits.{Reads}
+use Rattle.grammar.specs.Refusals.{Fault}
+use Rattle.grammar.specs.WriteOut.{writeOut}
+use Rattle.verdict.specs.Table.{slots}
+use Rattle.verdict.specs.Checked.{Result, alike, unlike, refused, whole, Checked}
+use Rattle.verdict.specs.Demand.{NoneCut, FirstCut, Number, Outnumber, Longer}
+use Rattle.verdict.proofs.One.{found, found-exactly}
+use Rattle.verdict.proofs.Checked.{checked-found, checked-exactly}
+use Rattle.verdict.proofs.Promise.{Refused, alike-promise, unlike-promise, ten, eleven, withheld, reader-refusal, kept}
+use Rattle.verdict.proofs.Bytes.{stay-bytes}
+
+-- The right answer is the computed one.
+pub checked-is : (p t v : List ℕ) (x : Result) (t′ v′ : List ℕ) → Checked p t v (whole x t′ v′) ↔ (found p t v ≡ whole x t′ v′)
+checked-is p t v x t′ v′ =
+    (λ c. found-exactly p t v x t′ v′ .0 (checked-found c), λ e. checked-exactly p t v x t′ v′ .1 (found-exactly p t v x t′ v′ .1 e))
+
+-- It is refused with that number at place 0.
+abbrev pub RefusedBy : List ℕ → List ℕ → List ℕ → ℕ → Type 0
+RefusedBy p t v n = (t′ v′ : List ℕ) × Checked p t v (whole (refused n 0) t′ v′)
+
+module _ {p t v : List ℕ} where
+  to : {n : ℕ} → RefusedBy p t v n → Refused p t v n
+  to (t′, v′, c) = (t′, v′, checked-found c)
+
+  back : {n : ℕ} → Refused p t v n → RefusedBy p t v n
+  back {n} (t′, v′, c) = (t′, v′, checked-exactly p t v (refused n 0) t′ v′ .1 c)
+
+  module _ (a : Alternation) (i : Reads p a) where
+    -- ALIKE: no sequence of bytes, of any length, is cut differently; the count is the number of distinct standings.
+    pub alike-means : {n : ℕ} {t′ v′ : List ℕ} → Checked p t v (whole (alike n) t′ v′) → NoneCut (writeOut a) × Number (writeOut a) (λ u. Unit {0}) n
+    alike-means c = alike-promise (checked-found c) a i
+
+    -- UNLIKE: the witness handed over, the first k bytes of the buffer, is cut differently, and every other line that is cut differently is longer, or as long and later in byte order; the count is the number of distinct standings of the lines up to and including it; the rest of the buffer is kept.
+    pub unlike-means : {n k : ℕ} {t′ v′ : List ℕ} → Checked p t v (whole (unlike n k) t′ v′)
+        → FirstCut (writeOut a) (take k v′) × Number (writeOut a) (λ u. (u ≡ take k v′) ⊎ (u ≺ take k v′)) n × (length (take k v′) ≡ k) × (drop k v′ ≡ drop k v)
+    unlike-means c = unlike-promise (checked-found c) a i
+
+    -- WITHHELD: exactly if the distinct standings up to and including the first witness's outnumber the slots (10), or else the first line cut differently is longer than the buffer (11).
+    pub ten-exactly : RefusedBy p t v 10 ↔ Outnumber (writeOut a) (slots (length t))
+    ten-exactly = (λ c. ten a i .0 (to c), λ o. back (ten a i .1 o))
+
+    pub eleven-exactly : RefusedBy p t v 11 ↔ ((Outnumber (writeOut a) (slots (length t)) → ⊥) × Longer (writeOut a) (length v))
+    eleven-exactly = (λ c. eleven a i .0 (to c), λ o. back (eleven a i .1 o))
+
+    pub withheld-exactly : (RefusedBy p t v 10 ⊎ RefusedBy p t v 11) ↔ (Outnumber (writeOut a) (slots (length t)) ⊎ Longer (writeOut a) (length v))
+    withheld-exactly = (
+      λ c. withheld a i .0 (either (λ x. inl (to x)) (λ x. inr (to x)) c),
+      λ o. either (λ x. inl (back x)) (λ x. inr (back x)) (withheld a i .1 o),
+    )
+
+  -- REFUSED with another number: the pattern's fault, and the buffers keep every byte.
+  pub refused-means : {n q : ℕ} {t′ v′ : List ℕ} → Checked p t v (whole (refused n q) t′ v′) → n ≤ 8 → Fault p n q × (t′ ≡ t) × (v′ ≡ v)
+  refused-means c h = reader-refusal (checked-found c) h
+
+  -- The buffers keep their lengths, and stay bytes.
+  pub lengths-kept : {x : Result} {t′ v′ : List ℕ} → Checked p t v (whole x t′ v′) → (length t′ ≡ length t) × (length v′ ≡ length v)
+  lengths-kept c = kept (checked-found c)
+
+  pub bytes-kept : {x : Result} {t′ v′ : List ℕ} → Checked p t v (whole x t′ v′) → Below 256 t → Below 256 v → Below 256 t′ × Below 256 v′
+  bytes-kept c = stay-bytes (checked-found c)

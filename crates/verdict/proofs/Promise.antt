@@ -1,0 +1,150 @@
+-- What the checker's answer says of the pattern.
+-- Assumes nothing.
+use mathlib.Core.Path.{_≡_, refl, sym, ap, ap₂, _∙_, subst}
+use mathlib.Core.Logic.{_⊎_, inl, inr, _↔_}
+use Prim.Native.Nat.{ℕ, suc, _≤_}
+use mathlib.Core.List.{List, [], _∷_, _++_}
+use native.Mathlib.Omega.{arith}
+use lib.ListN.{length, take, drop}
+use lib.Seq.{take-append-seam, drop-append-seam}
+use Rattle.theory.specs.Pattern.{Re}
+use Rattle.theory.specs.Lines.{_≺_}
+use Rattle.theory.specs.Code.Search.{SearchEnd, alike, unlike, full}
+use Rattle.theory.proofs.Run.{check}
+use Rattle.theory.proofs.Tests.{either}
+use Rattle.grammar.specs.Grammar.{Alternation}
+use Rattle.grammar.specs.Limits.{Reads}
+use Rattle.grammar.specs.Before.{Before}
+use Rattle.grammar.specs.Refusals.{Fault, tooLong, wrong, tooHeavy, Wrong, unopened, bare, unreadySign, unreadyCount, escapeLast, escapeOrdinary, noClass, noCount, tooDeep, leftOpen}
+use Rattle.grammar.specs.WriteOut.{writeOut}
+use Rattle.grammar.proofs.Adequate.{unambiguous, not-both}
+use Rattle.grammar.proofs.Size.{writeOut-numbered}
+use Rattle.verdict.specs.Table.{records, slots, onto}
+use Rattle.verdict.specs.Checked.{Result, alike as same, unlike as differ, refused as refuse}
+use Rattle.verdict.specs.Code.Found.{Found, not-read, same-cuts, first-witness, no-slot, no-room}
+use Rattle.verdict.specs.Demand.{NoneCut, FirstCut, Number, Outnumber, Longer}
+use Rattle.verdict.proofs.Tables.{records-size, slots-fit, onto-length}
+use Rattle.theory.proofs.Lines.{snoc-size}
+use Rattle.verdict.proofs.Meaning.{alike-none, first-cut, first-unique, alike-number, unlike-number, full-outnumbers, alike-enough, unlike-enough}
+
+-- The reader's refusals are 1 to 8.
+wrong-number : {o : Before} {s : List ℕ} {n : ℕ} → Wrong o s n → n ≤ 8
+wrong-number (unopened s e) = omega arith
+wrong-number (bare b s e) = omega arith
+wrong-number (unreadySign b x s e f) = omega arith
+wrong-number (unreadyCount s e) = omega arith
+wrong-number escapeLast = omega arith
+wrong-number (escapeOrdinary b s e) = omega arith
+wrong-number (noClass s e) = omega arith
+wrong-number (noCount s e f) = omega arith
+wrong-number (tooDeep s e) = omega arith
+wrong-number (leftOpen e) = omega arith
+
+pub fault-number : {p : List ℕ} {n q : ℕ} → Fault p n q → n ≤ 8
+fault-number (tooLong h e f) = omega arith
+fault-number (wrong h o s w e k f) = wrong-number k
+fault-number (tooHeavy h t w i e j k f) = omega arith
+
+abbrev pub Refused : List ℕ → List ℕ → List ℕ → ℕ → Type 0
+Refused p t v n = (t′ v′ : List ℕ) × Found p t v (refuse n 0) t′ v′
+
+fits : (t : List ℕ) (r : Re) (L : List (List ℕ)) → length L ≤ slots (length t) → length (onto t (records r L)) ≡ length t
+fits t r L h = onto-length t (records r L) (omega (arith, records-size r L L, slots-fit (length t)))
+
+module _ {p t v : List ℕ} where
+  -- ALIKE: no sequence of bytes of any length is cut differently, and the count is the number of distinct standings.
+  pub alike-promise : {n : ℕ} {t′ v′ : List ℕ} → Found p t v (same n) t′ v′ → (a : Alternation) → Reads p a
+      → NoneCut (writeOut a) × Number (writeOut a) (λ u. Unit {0}) n
+  alike-promise (not-read f e g h) a i = absurd (let z : _≡_ {A = ℕ} 0 1 = cc in omega arith)
+  alike-promise {n} (same-cuts {a = b} {L = L} h c l e f g) a i =
+      let m : n ≡ length L = cc in
+      subst (λ x. NoneCut (writeOut x) × Number (writeOut x) (λ u. Unit {0}) n) (unambiguous p b a h i)
+      (alike-none (writeOut b) (writeOut-numbered b) c, rw m (alike-number (writeOut b) (writeOut-numbered b) c))
+  alike-promise (first-witness h c l k e f g) a i = absurd (let z : _≡_ {A = ℕ} 0 1 = cc in omega arith)
+  alike-promise (no-slot h c l e f g) a i = absurd (let z : _≡_ {A = ℕ} 0 1 = cc in omega arith)
+  alike-promise (no-room h c l k e f g) a i = absurd (let z : _≡_ {A = ℕ} 0 1 = cc in omega arith)
+
+  -- UNLIKE: the first k bytes of the witness buffer are the first line cut differently, the rest of it is kept, and the count is the number of the distinct standings of the lines up to and including that one.
+  pub unlike-promise : {n k : ℕ} {t′ v′ : List ℕ} → Found p t v (differ n k) t′ v′ → (a : Alternation) → Reads p a
+      → FirstCut (writeOut a) (take k v′) × Number (writeOut a) (λ u. (u ≡ take k v′) ⊎ (u ≺ take k v′)) n × (length (take k v′) ≡ k) × (drop k v′ ≡ drop k v)
+  unlike-promise (not-read f e g h) a i = absurd (let z : _≡_ {A = ℕ} 0 1 = cc in omega arith)
+  unlike-promise (same-cuts h c l e f g) a i = absurd (let z : _≡_ {A = ℕ} 0 1 = cc in omega arith)
+  unlike-promise {n} {k} {t′} {v′} (first-witness {a = b} {L = L} {w = w} h c l j e f g) a i =
+      let m : n ≡ suc (length L) = cc in
+      let s : k ≡ length w = cc in
+      let x : take k v′ ≡ w = ap₂ take s g ∙ take-append-seam w (drop (length w) v) in
+      let y : drop k v′ ≡ drop k v = ap₂ drop s g ∙ drop-append-seam w (drop (length w) v) ∙ ap (λ o. drop o v) (sym s) in
+      subst (λ z. FirstCut (writeOut z) (take k v′) × Number (writeOut z) (λ u. (u ≡ take k v′) ⊎ (u ≺ take k v′)) n × (length (take k v′) ≡ k) × (drop k v′ ≡ drop k v)) (unambiguous p b a h i)
+      (subst (λ z. FirstCut (writeOut b) z × Number (writeOut b) (λ u. (u ≡ z) ⊎ (u ≺ z)) n × (length z ≡ k) × (drop k v′ ≡ drop k v)) (sym x)
+      (first-cut (writeOut b) (writeOut-numbered b) c, rw m (unlike-number (writeOut b) (writeOut-numbered b) c), sym s, y))
+  unlike-promise (no-slot h c l e f g) a i = absurd (let z : _≡_ {A = ℕ} 0 1 = cc in omega arith)
+  unlike-promise (no-room h c l k e f g) a i = absurd (let z : _≡_ {A = ℕ} 0 1 = cc in omega arith)
+
+  module _ (a : Alternation) (i : Reads p a) where
+    -- 10 EXACTLY IF the distinct standings up to and including the first witness's outnumber the slots.
+    pub ten-only : Refused p t v 10 → Outnumber (writeOut a) (slots (length t))
+    ten-only (t′, v′, not-read {n = n} {q = q} f e g h) = absurd (not-both p a n q i f)
+    ten-only (t′, v′, same-cuts h c l e f g) = absurd (let z : _≡_ {A = ℕ} 0 1 = cc in omega arith)
+    ten-only (t′, v′, first-witness h c l k e f g) = absurd (let z : _≡_ {A = ℕ} 0 1 = cc in omega arith)
+    ten-only (t′, v′, no-slot {a = b} {L = L} h c l e f g) =
+        subst (λ x. Outnumber (writeOut x) (slots (length t))) (unambiguous p b a h i) (subst (Outnumber (writeOut b)) l (full-outnumbers (writeOut b) (writeOut-numbered b) c))
+    ten-only (t′, v′, no-room h c l k e f g) = absurd (let z : _≡_ {A = ℕ} 10 11 = cc in omega arith)
+
+    pub ten-if : Outnumber (writeOut a) (slots (length t)) → Refused p t v 10
+    ten-if o = go (check (writeOut a) (writeOut-numbered a) (slots (length t)))
+      where
+        go : SearchEnd (writeOut a) (slots (length t)) → Refused p t v 10
+        go (alike L h c) = absurd (alike-enough (writeOut a) (writeOut-numbered a) c h o)
+        go (unlike L w h c) = absurd (unlike-enough (writeOut a) (writeOut-numbered a) c h o)
+        go (full L h c) = (onto t (records (writeOut a) L), v, no-slot i c h refl refl refl)
+
+    pub ten : Refused p t v 10 ↔ Outnumber (writeOut a) (slots (length t))
+    ten = (ten-only, ten-if)
+
+    -- 11 EXACTLY IF they do not, and the first line cut differently is longer than the buffer.
+    pub eleven-only : Refused p t v 11 → (Outnumber (writeOut a) (slots (length t)) → ⊥) × Longer (writeOut a) (length v)
+    eleven-only (t′, v′, not-read {n = n} {q = q} f e g h) = absurd (not-both p a n q i f)
+    eleven-only (t′, v′, same-cuts h c l e f g) = absurd (let z : _≡_ {A = ℕ} 0 1 = cc in omega arith)
+    eleven-only (t′, v′, first-witness h c l k e f g) = absurd (let z : _≡_ {A = ℕ} 0 1 = cc in omega arith)
+    eleven-only (t′, v′, no-slot h c l e f g) = absurd (let z : _≡_ {A = ℕ} 11 10 = cc in omega arith)
+    eleven-only (t′, v′, no-room {a = b} {w = w} h c l k e f g) =
+        subst (λ x. (Outnumber (writeOut x) (slots (length t)) → ⊥) × Longer (writeOut x) (length v)) (unambiguous p b a h i)
+        (unlike-enough (writeOut b) (writeOut-numbered b) c l, (w, first-cut (writeOut b) (writeOut-numbered b) c, k))
+
+    -- Where the first line cut differently is too long, the verdict is withheld.
+    too-long : Longer (writeOut a) (length v) → Refused p t v 10 ⊎ Refused p t v 11
+    too-long (w, c, l) = go (check (writeOut a) (writeOut-numbered a) (slots (length t)))
+      where
+        go : SearchEnd (writeOut a) (slots (length t)) → Refused p t v 10 ⊎ Refused p t v 11
+        go (alike L h b) = absurd (alike-none (writeOut a) (writeOut-numbered a) b w (c .bytes) (c .cut))
+        go (unlike L u h b) =
+            let e = first-unique (writeOut a) (writeOut-numbered a) c (first-cut (writeOut a) (writeOut-numbered a) b) in
+            inr (onto t (records (writeOut a) (L ++ (u ∷ []))), v, no-room i b h (omega (arith, ap length e)) refl refl refl)
+        go (full L h b) = inl (onto t (records (writeOut a) L), v, no-slot i b h refl refl refl)
+
+    pub eleven : Refused p t v 11 ↔ ((Outnumber (writeOut a) (slots (length t)) → ⊥) × Longer (writeOut a) (length v))
+    eleven = (eleven-only, λ h. either (λ x. absurd (h .0 (ten-only x))) (λ x. x) (too-long (h .1)))
+
+    -- A VERDICT IS WITHHELD EXACTLY IF the distinct standings outnumber the slots, or the first line cut differently is longer than the buffer.
+    pub withheld : (Refused p t v 10 ⊎ Refused p t v 11) ↔ (Outnumber (writeOut a) (slots (length t)) ⊎ Longer (writeOut a) (length v))
+    withheld = (
+      either (λ x. inl (ten-only x)) (λ x. inr (eleven-only x .1)),
+      either (λ x. inl (ten-if x)) too-long,
+    )
+
+  -- A refusal of the reader's is the pattern's fault, and the buffers keep every byte.
+  pub reader-refusal : {n q : ℕ} {t′ v′ : List ℕ} → Found p t v (refuse n q) t′ v′ → n ≤ 8 → Fault p n q × (t′ ≡ t) × (v′ ≡ v)
+  reader-refusal {n} {q} (not-read {n = m} {q = k} f e g h) l =
+      let x : m ≡ n = cc in let y : k ≡ q = cc in (subst (λ z. Fault p z q) x (subst (Fault p m) y f), g, h)
+  reader-refusal (same-cuts h c k e f g) l = absurd (let z : _≡_ {A = ℕ} 0 1 = cc in omega arith)
+  reader-refusal (first-witness h c j k e f g) l = absurd (let z : _≡_ {A = ℕ} 0 1 = cc in omega arith)
+  reader-refusal {n} (no-slot h c k e f g) l = absurd (let z : n ≡ 10 = cc in omega arith)
+  reader-refusal {n} (no-room h c j k e f g) l = absurd (let z : n ≡ 11 = cc in omega arith)
+
+  -- The buffers keep their lengths.
+  pub kept : {x : Result} {t′ v′ : List ℕ} → Found p t v x t′ v′ → (length t′ ≡ length t) × (length v′ ≡ length v)
+  kept (not-read h e f g) = (ap length f, ap length g)
+  kept (same-cuts {a = a} {L = L} h c l e f g) = (ap length f ∙ fits t (writeOut a) L l, ap length g)
+  kept (first-witness {a = a} {L = L} {w = w} h c l k e f g) = (ap length f ∙ fits t (writeOut a) (L ++ (w ∷ [])) (omega (arith, snoc-size L w)), ap length g ∙ onto-length v w k)
+  kept (no-slot {a = a} {L = L} h c l e f g) = (ap length f ∙ fits t (writeOut a) L (omega arith), ap length g)
+  kept (no-room {a = a} {L = L} {w = w} h c l k e f g) = (ap length f ∙ fits t (writeOut a) (L ++ (w ∷ [])) (omega (arith, snoc-size L w)), ap length g)

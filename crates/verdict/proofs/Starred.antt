@@ -1,0 +1,101 @@
+-- The starred reference lines hold, by computation.
+-- Assumes nothing.
+use mathlib.Core.Path.{_≡_, refl, ap, ap₂, _∙_}
+use Prim.Native.Nat.{ℕ, suc}
+use mathlib.Core.Bool.{Bool, true, false, cond}
+use mathlib.Core.List.{List, [], _∷_, _++_, map}
+use native.Mathlib.Omega.{arith}
+use native.Mathlib.Decide.{decLt, decLe, ℕ-discrete}
+use lib.ListN.{length}
+use lib.Dec.{ltb}
+use Rattle.theory.specs.Pattern.{Re, has, count, number}
+use Rattle.theory.specs.Outcomes.{emptyTurn, thenLeave, outcomes, starOutcomes}
+use Rattle.theory.specs.Code.Follow.{start, follow}
+use Rattle.theory.specs.Standing.{standing}
+use Rattle.theory.specs.Code.Next.{next}
+use Rattle.theory.specs.Spans.{greedy, posix}
+use Rattle.theory.proofs.Run.{check, run, seek, standing-dec, list-dec, stands-add}
+use Rattle.grammar.specs.Grammar.{Alternation, kind, inside}
+use Rattle.grammar.specs.Limits.{Reads, heaviest, weight}
+use Rattle.grammar.specs.Refusals.{Answer, accepted, refused, Right}
+use Rattle.grammar.specs.Code.Reader.{read, loop, readItems}
+use Rattle.grammar.specs.WriteOut.{writeOut, shape, chain, optional}
+use Rattle.grammar.proofs.Sound.{read-right}
+use Rattle.grammar.proofs.Size.{writeOut-numbered}
+use Rattle.verdict.specs.Bits.{bits, pack}
+use Rattle.verdict.specs.Record.{recordBits, recordBytes}
+use Rattle.verdict.specs.Table.{same, numberOf, recordsOf, records, slots, onto}
+use Rattle.verdict.specs.Checked.{Whole, whole, Result, alike, unlike, refused as refuse}
+use Rattle.verdict.specs.Starred.{Row, cuts, checks, Holds, All, starred}
+use Rattle.verdict.proofs.Agree.{Shown, alike-of, unlike-of, full-of, show}
+use Rattle.verdict.proofs.Checked.{checked-exactly}
+use Rattle.verdict.proofs.One.{answer, searched, read-answer, found, found-exactly}
+
+-- A row with what the definitions compute.
+abbrev cutRow : List ℕ → List ℕ → Answer → Row
+cutRow p w (accepted a) = cuts p w (greedy (writeOut a) w) (posix (writeOut a) w)
+cutRow p w (refused n q) = checks [] 0 0 (refuse 0 0) [] []
+
+abbrev shownRow : List ℕ → ℕ → ℕ → Re → Shown → Row
+shownRow p n m r (alike-of L) = checks p n m (alike (length L)) (records r L) []
+shownRow p n m r (unlike-of L w) =
+    cond (ltb m (length w))
+    (checks p n m (refuse 11 0) (records r (L ++ (w ∷ []))) [])
+    (checks p n m (unlike (suc (length L)) (length w)) (records r (L ++ (w ∷ []))) w)
+shownRow p n m r (full-of L) = checks p n m (refuse 10 0) (records r L) []
+
+abbrev checkRow : List ℕ → ℕ → ℕ → Answer → Row
+checkRow p n m (accepted a) = shownRow p n m (writeOut a) (show (check (writeOut a) (writeOut-numbered a) (slots n)))
+checkRow p n m (refused k q) = checks p n m (refuse k q) [] []
+
+computed : Row → Row
+computed (cuts p w g s) = cutRow p w (read p)
+computed (checks p n m x u w) = checkRow p n m (read p)
+
+-- IT HOLDS if it is that.
+spread : List ℕ → List ℕ → Row → Whole
+spread t v (cuts p w g s) = whole (refuse 0 0) [] []
+spread t v (checks p n m x u w) = whole x (onto t u) (onto v w)
+
+spread-right : (p t v : List ℕ) (a : Answer) → read-answer t v a ≡ spread t v (checkRow p (length t) (length v) a)
+unfolding spread
+spread-right p t v (refused n q) = refl
+spread-right p t v (accepted a) = go (searched t a)
+  where
+    go : (s : Shown) → answer (writeOut a) t v s ≡ spread t v (shownRow p (length t) (length v) (writeOut a) s)
+    go (alike-of L) = refl
+    go (full-of L) = refl
+    go (unlike-of L w) = pick (ltb (length v) (length w))
+      where
+        pick : (c : Bool) → cond c (whole (refuse 11 0) (onto t (records (writeOut a) (L ++ (w ∷ [])))) v) (whole (unlike (suc (length L)) (length w)) (onto t (records (writeOut a) (L ++ (w ∷ [])))) (onto v w))
+            ≡ spread t v (cond c (checks p (length t) (length v) (refuse 11 0) (records (writeOut a) (L ++ (w ∷ []))) []) (checks p (length t) (length v) (unlike (suc (length L)) (length w)) (records (writeOut a) (L ++ (w ∷ []))) w))
+        pick true = refl
+        pick false = refl
+
+found-spread : (p t v : List ℕ) → found p t v ≡ spread t v (checkRow p (length t) (length v) (read p))
+unfolding found
+found-spread p t v = spread-right p t v (read p)
+
+spread-checks : (p t v : List ℕ) (n m : ℕ) (x : Result) (u w : List ℕ) → spread t v (checks p n m x u w) ≡ whole x (onto t u) (onto v w)
+unfolding spread
+spread-checks p t v n m x u w = refl
+
+row-holds : (x : Row) → computed x ≡ x → Holds x
+unfolding Holds computed
+row-holds (cuts p w g s) e = go (read p) (read-right p) e
+  where
+    go : (a : Answer) → Right p a → cutRow p w a ≡ cuts p w g s → (a : Alternation) × Reads p a × (greedy (writeOut a) w ≡ g) × (posix (writeOut a) w ≡ s)
+    go (accepted a) h e = (a, h, (cc), (cc))
+    go (refused n q) h e = absurd (let z : _≡_ {A = ℕ} 0 1 = cc in omega arith)
+row-holds (checks p n m x u w) e = λ t v f g.
+    checked-exactly p t v x (onto t u) (onto v w) .1 (found-exactly p t v x (onto t u) (onto v w) .1
+    (found-spread p t v ∙ ap₂ (λ k l. spread t v (checkRow p k l (read p))) f g ∙ ap (spread t v) e ∙ spread-checks p t v n m x u w))
+
+all-hold : (l : List Row) → map computed l ≡ l → All l
+unfolding All
+all-hold [] e = tt
+all-hold (x ∷ l) e = (row-holds x (cc), all-hold l (cc))
+
+pub starred-hold : All starred
+unfolding starred computed greedy posix outcomes starOutcomes emptyTurn thenLeave start follow has count standing next check run seek standing-dec list-dec stands-add decLt decLe ℕ-discrete read loop kind inside readItems heaviest weight writeOut shape chain optional number bits pack recordBits recordBytes same numberOf recordsOf slots
+starred-hold = all-hold starred refl

@@ -1,0 +1,227 @@
+-- Laws of the records and of the table.
+-- Assumes nothing.
+use mathlib.Core.Path.{_≡_, refl, sym, ap, ap₂, _∙_}
+use mathlib.Core.Logic.{inl, _≢_}
+use Prim.Native.Nat.{ℕ, zero, suc, _+_, _*_, _/_, _≤_, _<_}
+use mathlib.Core.Bool.{Bool, true, false, _&&_, cond}
+use mathlib.Core.List.{List, [], _∷_, _++_, append-nil, append-assoc}
+use native.Mathlib.Omega.{arith}
+use native.Mathlib.Nat.{div-add-mod', min-le-left, min-le-right, zero-add}
+use lib.ListN.{length, take, drop, length-append, length-drop}
+use lib.Seq.{sets, sets-eq, take-at, take-append-seam, drop-append-add, drop-drop}
+use lib.Dec.{T, eqb, eqb→eq, eqb-refl}
+use Rattle.theory.specs.Pattern.{Re}
+use Rattle.theory.specs.Standing.{Standing, standing}
+use Rattle.theory.specs.Records.{at, Records}
+use Rattle.theory.specs.Lines.{_≺_}
+use Rattle.theory.proofs.Tests.{T-true, not-true}
+use Rattle.theory.proofs.Lines.{below-left}
+use Rattle.verdict.specs.Bits.{bits, bit, pack}
+use Rattle.verdict.specs.Record.{sixBits, recordBits, recordBytes}
+use Rattle.verdict.specs.Table.{body, lastByte, sameList, sameBool, same, numberOf, recordOf, recordsOf, records, slots, onto}
+
+-- Sizes: a record has 512 bits and 64 bytes.
+pub length-bits : (d n : ℕ) → length (bits d n) ≡ d
+unfolding bits
+length-bits zero n = refl
+length-bits (suc d) n = ap suc (length-bits d n)
+
+length-bit : (c : Bool) → length (bit c) ≡ 1
+length-bit true = refl
+length-bit false = refl
+
+pub length-sixBits : (n : ℕ) (l : List ℕ) → length (sixBits n l) ≡ 6 * n
+length-sixBits zero l = refl
+length-sixBits (suc n) [] = omega (arith, length-append (bits 6 0) (sixBits n []), length-bits 6 0, length-sixBits n [])
+length-sixBits (suc n) (p ∷ l) = omega (arith, length-append (bits 6 p) (sixBits n l), length-bits 6 p, length-sixBits n l)
+
+pub record-512 : (s : Standing) (origin byte : ℕ) → length (recordBits s origin byte) ≡ 512
+unfolding recordBits
+record-512 s o b =
+    simp (length-append, length-bits, length-bit, length-sixBits) refl
+
+pub length-pack : (n : ℕ) (l : List ℕ) → length (pack n l) ≡ n
+unfolding pack
+length-pack zero l = refl
+length-pack (suc n) l = ap suc (length-pack n (drop 8 l))
+
+pub record-64 : (s : Standing) (origin byte : ℕ) → length (recordBytes s origin byte) ≡ 64
+unfolding recordBytes
+record-64 s o b = length-pack 64 (recordBits s o b)
+
+pub records-size : (r : Re) (L M : List (List ℕ)) → length (recordsOf r L M) ≡ 64 * length M
+unfolding recordsOf
+records-size r L [] = refl
+records-size r L (w ∷ M) = omega (arith, length-append (recordOf r L w) (recordsOf r L M), record-64 (standing r w) (numberOf r L (standing r (body w))) (lastByte w), records-size r L M)
+
+-- Its slots are in the table.
+pub slots-fit : (n : ℕ) → 64 * slots n ≤ n
+unfolding slots
+slots-fit n = omega (arith, div-add-mod' n 64, min-le-left (n / 64) 65535)
+
+pub slots-most : (n : ℕ) → slots n ≤ 65535
+unfolding slots
+slots-most n = min-le-right (n / 64) 65535
+
+-- `onto` stores.
+pub onto-sets : (t u : List ℕ) → length u ≤ length t → onto t u ≡ sets t 0 u
+onto-sets t u h = ap (λ n. u ++ drop n t) (sym (zero-add (length u))) ∙ sym (sets-eq u t 0 (omega arith))
+
+pub onto-length : (t u : List ℕ) → length u ≤ length t → length (onto t u) ≡ length t
+onto-length t u h = omega (arith, length-append u (drop (length u) t), length-drop (length u) t)
+
+-- `same` is equality.
+and-split : (a b : Bool) → T (a && b) → T a × T b
+and-split true b t = (tt, t)
+and-split false b t = absurd t
+
+sameList-eq : (l m : List ℕ) → T (sameList l m) → l ≡ m
+sameList-eq [] [] t = refl
+sameList-eq [] (b ∷ m) t = absurd t
+sameList-eq (a ∷ l) [] t = absurd t
+sameList-eq (a ∷ l) (b ∷ m) t = let c = and-split (eqb a b) (sameList l m) t in ap₂ _∷_ (eqb→eq a b (c .0)) (sameList-eq l m (c .1))
+
+sameList-refl : (l : List ℕ) → sameList l l ≡ true
+sameList-refl [] = refl
+sameList-refl (a ∷ l) = rw (T-true (eqb a a) (eqb-refl a), sameList-refl l)
+
+sameBool-eq : (a b : Bool) → T (sameBool a b) → a ≡ b
+sameBool-eq true true t = refl
+sameBool-eq true false t = absurd t
+sameBool-eq false true t = absurd t
+sameBool-eq false false t = refl
+
+sameBool-refl : (a : Bool) → sameBool a a ≡ true
+sameBool-refl true = refl
+sameBool-refl false = refl
+
+pub same-eq : (s t : Standing) → T (same s t) → s ≡ t
+unfolding same
+same-eq s t h =
+    let a = and-split (sameList (s .order) (t .order)) _ h in
+    let b = and-split (sameBool (s .first) (t .first)) _ (a .1) in
+    let c = and-split (sameList (s .all) (t .all)) (sameBool (s .some) (t .some)) (b .1) in
+    let e1 = sameList-eq (s .order) (t .order) (a .0) in
+    let e2 = sameBool-eq (s .first) (t .first) (b .0) in
+    let e3 = sameList-eq (s .all) (t .all) (c .0) in
+    let e4 = sameBool-eq (s .some) (t .some) (c .1) in
+    λ i. record { order = e1 i; first = e2 i; all = e3 i; some = e4 i }
+
+pub same-refl : (s : Standing) → same s s ≡ true
+unfolding same
+same-refl s = rw (sameList-refl (s .order), sameBool-refl (s .first), sameList-refl (s .all), sameBool-refl (s .some))
+
+pub same-no : (s t : Standing) → s ≢ t → same s t ≡ false
+same-no s t h = not-true (same s t) λ c. h (same-eq s t c)
+
+-- The fromBits of a record.
+module _ (r : Re) where
+  pub number-is : (L : List (List ℕ)) (s : Standing) (j : ℕ) → j < length L → standing r (at L j) ≡ s → ((k : ℕ) → k < j → standing r (at L k) ≢ s) → numberOf r L s ≡ j
+  unfolding numberOf
+  number-is [] s j l e n = absurd (omega arith)
+  number-is (w ∷ L) s zero l e n = rw (e, same-refl s)
+  number-is (w ∷ L) s (suc j) l e n = rw (same-no (standing r w) s (n 0 (omega arith))) (ap suc (number-is L s j (omega arith) e λ k h. n (suc k) (omega arith)))
+
+  -- In a list of records it is the place of the standing.
+  pub number-at : {L : List (List ℕ)} → Records r L → (s : Standing) (j : ℕ) → j < length L → standing r (at L j) ≡ s → numberOf r L s ≡ j
+  number-at {L} a s j l e = number-is L s j l e λ k h c. a .fresh k j h l (c ∙ sym e)
+
+  -- A line added at the end changes no fromBits,
+  pub number-add : (L : List (List ℕ)) (w : List ℕ) (s : Standing) (j : ℕ) → j < length L → standing r (at L j) ≡ s → numberOf r (L ++ (w ∷ [])) s ≡ numberOf r L s
+  unfolding numberOf
+  number-add [] w s j l e = absurd (omega arith)
+  number-add (x ∷ L) w s zero l e = rw (e, same-refl s)
+  number-add (x ∷ L) w s (suc j) l e = ap (λ n. cond (same (standing r x) s) 0 (suc n)) (number-add L w s j (omega arith) e)
+
+pub body-snoc : (u : List ℕ) (b : ℕ) → body (u ++ (b ∷ [])) ≡ u
+body-snoc [] b = refl
+body-snoc (a ∷ []) b = refl
+body-snoc (a ∷ c ∷ u) b = ap (λ x. a ∷ x) (body-snoc (c ∷ u) b)
+
+pub last-snoc : (u : List ℕ) (b : ℕ) → lastByte (u ++ (b ∷ [])) ≡ b
+last-snoc [] b = refl
+last-snoc (a ∷ []) b = refl
+last-snoc (a ∷ c ∷ u) b = last-snoc (c ∷ u) b
+
+-- THE RECORDS OF MORE LINES are those of fewer, and then the new line's.
+recordsOf-append : (r : Re) (L M N : List (List ℕ)) → recordsOf r L (M ++ N) ≡ recordsOf r L M ++ recordsOf r L N
+unfolding recordsOf
+recordsOf-append r L [] N = refl
+recordsOf-append r L (w ∷ M) N = rw (recordsOf-append r L M N, append-assoc)
+
+-- Where a line comes from: the empty one from itself, any other from a line before it.
+pub data From : List ℕ → Type 0 where
+  nothing : From []
+  grown : (u : List ℕ) (b : ℕ) → From (u ++ (b ∷ []))
+
+pub from-where : (w : List ℕ) → From w
+from-where [] = nothing
+from-where (a ∷ w) = go (from-where w)
+  where
+    go : {w : List ℕ} → From w → From (a ∷ w)
+    go nothing = grown [] a
+    go (grown u b) = grown (a ∷ u) b
+
+pub snoc-after : (u : List ℕ) (b : ℕ) → u ≺ u ++ (b ∷ [])
+unfolding _≺_
+snoc-after u b = inl (omega (arith, length-append u (b ∷ [])))
+
+module _ (r : Re) where
+  -- The line that line k comes from has its record in the list.
+  pub origin-at : {L : List (List ℕ)} → Records r L → (k : ℕ) → k < length L → (j : ℕ) × (j ≤ k) × (standing r (at L j) ≡ standing r (body (at L k)))
+  origin-at {L} a k l = go (at L k) refl (from-where (at L k))
+    where
+      go : (w : List ℕ) → at L k ≡ w → From w → (j : ℕ) × (j ≤ k) × (standing r (at L j) ≡ standing r (body w))
+      go _ e nothing = (k, omega arith, ap (standing r) e)
+      go _ e (grown u b) =
+          let (j, i, s) = a .before k l u (below-left 256 u (b ∷ []) (rw e at (a .bytes k l))) (rw e (snoc-after u b)) in
+          (j, omega arith, s ∙ ap (standing r) (sym (body-snoc u b)))
+
+  pub recordsOf-same : (L N M : List (List ℕ)) → ((k : ℕ) → k < length M → numberOf r L (standing r (body (at M k))) ≡ numberOf r N (standing r (body (at M k)))) → recordsOf r L M ≡ recordsOf r N M
+  unfolding recordsOf
+  recordsOf-same L N [] e = refl
+  recordsOf-same L N (w ∷ M) e =
+      ap₂ _++_ (ap (λ n. recordBytes (standing r w) n (lastByte w)) (e 0 (omega arith))) (recordsOf-same L N M λ k h. e (suc k) (omega arith))
+
+  pub records-add : {L : List (List ℕ)} (w : List ℕ) → Records r L → records r (L ++ (w ∷ [])) ≡ records r L ++ recordOf r (L ++ (w ∷ [])) w
+  unfolding recordsOf
+  records-add {L} w a =
+      recordsOf-append r (L ++ (w ∷ [])) L (w ∷ [])
+      ∙ ap₂ _++_
+      (recordsOf-same (L ++ (w ∷ [])) L L λ k h. let (j, i, e) = origin-at a k h in number-add r L w (standing r (body (at L k))) j (omega arith) e)
+      (append-nil (recordOf r (L ++ (w ∷ [])) w))
+
+  -- The record of a line that the byte b made of line j's standing.
+  pub record-is : {L : List (List ℕ)} → Records r L → (u : List ℕ) (b j : ℕ) → j < length L → standing r (at L j) ≡ standing r u
+      → recordOf r L (u ++ (b ∷ [])) ≡ recordBytes (standing r (u ++ (b ∷ []))) j b
+  record-is a u b j l e = ap₂ (recordBytes (standing r (u ++ (b ∷ [])))) (rw (body-snoc u b) (number-at r a (standing r u) j l e)) (last-snoc u b)
+
+  -- The first record comes from nothing.
+  pub record-zero : (L : List (List ℕ)) → recordOf r ([] ∷ L) [] ≡ recordBytes (standing r []) 0 0
+  unfolding numberOf
+  record-zero L = rw (same-refl (standing r []))
+
+-- WHAT A STORE OF ONE MORE RECORD MAKES.
+pub onto-more : (t u x : List ℕ) → length u + length x ≤ length t → onto t (u ++ x) ≡ sets (onto t u) (length u) x
+onto-more t u x h =
+    let size : length (onto t u) ≡ length t = onto-length t u (omega arith) in
+    let front : take (length u) (onto t u) ≡ u = take-append-seam u (drop (length u) t) in
+    let back : drop (length u + length x) (onto t u) ≡ drop (length u + length x) t = drop-append-add u (drop (length u) t) (length x) ∙ drop-drop (length x) (length u) t in
+    ap (λ n. (u ++ x) ++ drop n t) (length-append u x)
+    ∙ sym (sets-eq x (onto t u) (length u) (omega arith) ∙ ap₂ (λ a b. (a ++ x) ++ b) front back)
+
+-- SLOT k HOLDS RECORD k.
+slot-of : (r : Re) (L M : List (List ℕ)) (y : List ℕ) (k : ℕ) → k < length M → take 64 (drop (64 * k) (recordsOf r L M ++ y)) ≡ recordOf r L (at M k)
+unfolding recordsOf
+slot-of r L [] y k l = absurd (omega arith)
+slot-of r L (w ∷ M) y zero l =
+    ap (take 64) (append-assoc (recordOf r L w) (recordsOf r L M) y)
+    ∙ take-at (recordOf r L w) (recordsOf r L M ++ y) 64 (record-64 (standing r w) (numberOf r L (standing r (body w))) (lastByte w))
+slot-of r L (w ∷ M) y (suc k) l =
+    let size : length (recordOf r L w) ≡ 64 = record-64 (standing r w) (numberOf r L (standing r (body w))) (lastByte w) in
+    let e : 64 * suc k ≡ length (recordOf r L w) + 64 * k = omega arith in
+    ap (take 64) (ap₂ drop e (append-assoc (recordOf r L w) (recordsOf r L M) y) ∙ drop-append-add (recordOf r L w) (recordsOf r L M ++ y) (64 * k))
+    ∙ slot-of r L M y k (omega arith)
+
+pub slot : (r : Re) (L : List (List ℕ)) (t : List ℕ) (k : ℕ) → k < length L → take 64 (drop (64 * k) (onto t (records r L))) ≡ recordOf r L (at L k)
+slot r L t k l = slot-of r L L (drop (length (records r L)) t) k l

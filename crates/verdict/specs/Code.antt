@@ -1,0 +1,2 @@
+-- Definitions in the shape of code.
+pub mod Found

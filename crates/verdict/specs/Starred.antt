@@ -1,0 +1,55 @@
+-- Paper 01's starred reference lines, from the bytes of the patterns.
+-- Assumes nothing.
+use mathlib.Core.Path.{_≡_}
+use Prim.Native.Nat.{ℕ}
+use mathlib.Core.List.{List, [], _∷_, _++_}
+use lib.ListN.{length, replicate}
+use Rattle.theory.specs.Spans.{Span, nowhere, span, greedy, posix}
+use Rattle.grammar.specs.Grammar.{Alternation}
+use Rattle.grammar.specs.Limits.{Reads}
+use Rattle.grammar.specs.WriteOut.{writeOut}
+use Rattle.verdict.specs.Table.{onto}
+use Rattle.verdict.specs.Checked.{Result, alike, unlike, refused, whole, Checked}
+
+pub data Row : Type 0 where
+  cuts : (pattern line : List ℕ) (greedy posix : Span) → Row
+  -- With any table and witness buffer of these lengths: the result, the bytes written at the table's start, and those at the buffer's start.
+  checks : (pattern : List ℕ) (table buffer : ℕ) → Result → (records witness : List ℕ) → Row
+
+unfoldable pub Holds : Row → Type 0
+Holds (cuts p w g s) = (a : Alternation) × Reads p a × (greedy (writeOut a) w ≡ g) × (posix (writeOut a) w ≡ s)
+Holds (checks p n m x u w) = (t v : List ℕ) → length t ≡ n → length v ≡ m → Checked p t v (whole x (onto t u) (onto v w))
+
+unfoldable pub All : List Row → Type 0
+All [] = Unit {0}
+All (x ∷ l) = Holds x × All l
+
+-- The records of `a|ab`: of the lines empty, 00, 61 and 6162.
+abbrev pub three : List ℕ
+three =
+    (4 ∷ 0 ∷ 192 ∷ replicate 11 0) ++ (16 ∷ replicate 49 0)
+    ++ (replicate 64 0
+    ++ ((1 ∷ 128 ∷ 32 ∷ replicate 9 0) ++ (97 ∷ replicate 51 0)))
+
+abbrev pub four : List ℕ
+four = three ++ ((0 ∷ 128 ∷ replicate 9 0) ++ (2 ∷ 98 ∷ replicate 51 0))
+
+abbrev pub a|ab : List ℕ
+a|ab = 97 ∷ 124 ∷ 97 ∷ 98 ∷ []
+
+unfoldable pub starred : List Row
+starred =
+    cuts a|ab (97 ∷ 98 ∷ []) (span 0 1) (span 0 2)
+    ∷ cuts (40 ∷ 97 ∷ 124 ∷ 97 ∷ 98 ∷ 41 ∷ 42 ∷ []) (97 ∷ 97 ∷ 98 ∷ []) (span 0 2) (span 0 3)  -- (a|ab)*
+    ∷ cuts (97 ∷ 42 ∷ 40 ∷ 98 ∷ 124 ∷ 97 ∷ 98 ∷ 99 ∷ 41 ∷ []) (97 ∷ 98 ∷ 99 ∷ []) (span 0 2) (span 0 3)  -- a*(b|abc)
+    ∷ cuts (97 ∷ 98 ∷ 124 ∷ 97 ∷ []) (97 ∷ 98 ∷ []) (span 0 2) (span 0 2)  -- ab|a
+    ∷ cuts (97 ∷ 42 ∷ []) [] (span 0 0) (span 0 0)  -- a*
+    ∷ cuts (98 ∷ 42 ∷ []) (97 ∷ 98 ∷ []) (span 0 0) (span 0 0)  -- b*
+    ∷ cuts (97 ∷ []) [] nowhere nowhere  -- a
+    ∷ cuts (97 ∷ 123 ∷ 50 ∷ 44 ∷ 51 ∷ 125 ∷ []) (97 ∷ 97 ∷ 97 ∷ 97 ∷ []) (span 0 3) (span 0 3)  -- a{2,3}
+    ∷ cuts (40 ∷ 124 ∷ 97 ∷ 41 ∷ 42 ∷ []) (97 ∷ 97 ∷ []) (span 0 2) (span 0 2)  -- (|a)*
+    ∷ checks a|ab 256 1024 (unlike 4 2) four (97 ∷ 98 ∷ [])
+    ∷ checks a|ab 255 1024 (refused 10 0) three []
+    ∷ checks a|ab 256 1 (refused 11 0) four []
+    ∷ checks (40 ∷ 41 ∷ []) 65536 1024 (alike 2) ((1 ∷ 128 ∷ replicate 62 0) ++ replicate 64 0) []  -- ()
+    ∷ []
