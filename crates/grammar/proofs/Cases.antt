@@ -2,12 +2,14 @@
 -- Assumes nothing.
 use mathlib.Core.Path.{_≡_, refl}
 use Prim.Native.Nat.{ℕ, zero, suc}
+use mathlib.Core.Bool.{true, false}
 use mathlib.Core.List.{List, [], _∷_, map}
 use lib.ListN.{replicate}
-use Rattle.theory.specs.Pattern.{count, number}
-use Rattle.grammar.specs.Grammar.{kind, inside}
+use Rattle.theory.specs.Pattern.{Re, empty, seq, star, opt, count, number}
+use Rattle.grammar.specs.Grammar.{plain, digit, Item, range, named, one, more, exactly, atLeast, between, kind, inside}
 use Rattle.grammar.specs.Limits.{heaviest, weight}
-use Rattle.grammar.specs.WriteOut.{writeOut, shape, chain, optional}
+use Rattle.grammar.specs.Sets.{setTable, inItem, inClass}
+use Rattle.grammar.specs.WriteOut.{chain, optional, repeatOf, shape, writeOut}
 use Rattle.grammar.specs.Refusals.{Answer, accepted, refused}
 use Rattle.grammar.specs.Code.Tokens.{nodes}
 use Rattle.grammar.specs.Code.Reader.{read, loop, readItems}
@@ -71,6 +73,39 @@ numbers-due = refl
 pub places-due : map (λ c. placeOf (read (c .pattern))) cases ≡ map (λ c. c .place-due) cases
 unfolding read loop kind inside readItems heaviest weight writeOut shape chain optional number count
 places-due = refl
+
+-- A range holds both its ends, and a negated class all bytes not listed: [a-c] and [^a-c] at a, c and d.
+abbrev a-to-c : List Item
+a-to-c = range (plain 97) (plain 99) ∷ []
+
+pub range-ends : map (inClass false a-to-c) (96 ∷ 97 ∷ 99 ∷ 100 ∷ []) ≡ false ∷ true ∷ true ∷ false ∷ []
+range-ends = refl
+
+pub negated-class : map (inClass true a-to-c) (96 ∷ 97 ∷ 99 ∷ 100 ∷ []) ≡ true ∷ false ∷ false ∷ true ∷ []
+negated-class = refl
+
+-- A named set is its bit of the table: [:digit:] at `/`, 0, 9 and `:`.
+pub named-set : map (inItem (named digit)) (47 ∷ 48 ∷ 57 ∷ 58 ∷ []) ≡ false ∷ true ∷ true ∷ false ∷ []
+unfolding setTable
+named-set = refl
+
+-- Optional copies are nested, each inside the one before: r{1,3} is r(r(r)?)?.
+pub nested : (x : Re) → repeatOf (between (one 49) (one 51)) x ≡ seq x (opt (seq x (opt x)))
+unfolding chain optional
+nested x = refl
+
+-- r{0} is the empty sequence, r{2,} two copies and then r*, r+ is r and then r*.
+pub no-copy : (x : Re) → repeatOf (exactly (one 48)) x ≡ empty
+unfolding chain
+no-copy x = refl
+
+pub at-least : (x : Re) → repeatOf (atLeast (one 50)) x ≡ seq x (seq x (star x))
+unfolding chain
+at-least x = refl
+
+pub one-or-more : (x : Re) → repeatOf more x ≡ seq x (star x)
+unfolding chain
+one-or-more x = refl
 
 -- The most parts: ((..(a?)?..)?){0,63} with 16 brackets, and another such part with `?` for the count. The bound of `nodes-2303` is reached.
 abbrev nest : ℕ → List ℕ → List ℕ

@@ -2,11 +2,11 @@
 pub mod Cases
 pub mod Sets
 -- The reader's answer is right, and nothing else is.
-pub mod Bytes
+pub mod Texts
 pub mod Pieces
 pub mod Sound
 pub mod Unique
-pub mod Adequate
+pub mod Right
 pub mod Place
 -- The written-out pattern: its leaves and parts, and its tokens.
 pub mod Size

@@ -11,7 +11,7 @@ use Rattle.grammar.specs.Grammar.{Byte, plain, escaped, Name, alpha, dig
 use Rattle.grammar.specs.Before.{isOnce}
 use Rattle.grammar.specs.Code.Reader.{Found, found, missing, andThen, orElse, only, strip, readEscaped, innerBy, readInner, readNamed, rangeBy, readRange, itemBy, readItem, isClosing, readItems, readListed, isCaret, readClass, secondDigit, readDigits, readEnd, readSecond, readComma, readCount}
 use Rattle.grammar.specs.Sets.{names}
-use Rattle.grammar.proofs.Bytes.{InsideOk, inside-ok, len-items}
+use Rattle.grammar.proofs.Texts.{InsideOk, inside-ok, len-items}
 
 true-T : (c : Bool) → c ≡ true → T c
 true-T c e = rw e tt

@@ -12,7 +12,7 @@ use Rattle.grammar.specs.Limits.{depth, depthAtom, heaviest}
 use Rattle.grammar.specs.Before.{Before, start, barred, opened, after, text, opens, isOnce, ready, WfBefore}
 use Rattle.grammar.specs.Code.Reader.{Found, found, missing, readClass, readCount, Gathered, whole, within, front, gather, Move, on, stop, put, escape, addAtom, addCount, addGroup, step, place, ended, moved, loop, read}
 use Rattle.grammar.specs.Refusals.{accepted, refused, ClassAt, CountAt, Wrong, unopened, bare, unreadySign, unreadyCount, escapeLast, escapeOrdinary, noClass, noCount, tooDeep, leftOpen, tooLong, wrong, tooHeavy, Right}
-use Rattle.grammar.proofs.Bytes.{KindOk, kind-ok, len-item, len-items, len-repeat}
+use Rattle.grammar.proofs.Texts.{KindOk, kind-ok, len-item, len-items, len-repeat}
 use Rattle.grammar.proofs.Pieces.{Sound, ClassIs, class-sound, class-complete, CountIs, count-sound, count-complete}
 
 true-T : (c : Bool) → c ≡ true → T c

@@ -12,7 +12,7 @@ use Rattle.grammar.specs.Limits.{depth, depthSequence, depthAtom, heavie
 use Rattle.grammar.specs.Before.{Before, start, barred, opened, after, text, opens, ready, WfBefore}
 use Rattle.grammar.specs.Code.Reader.{Found, found, missing, readClass, readCount, Gathered, whole, within, front, gather, Move, on, stop, put, addAtom, addCount, addGroup, step, place, ended, moved, loop, read}
 use Rattle.grammar.specs.Refusals.{Answer, accepted, refused, ClassAt, CountAt, Wrong, unopened, bare, unreadySign, unreadyCount, escapeLast, escapeOrdinary, noClass, noCount, tooDeep, leftOpen, Fault, tooLong, wrong, tooHeavy, Right}
-use Rattle.grammar.proofs.Bytes.{len-repeat}
+use Rattle.grammar.proofs.Texts.{len-repeat}
 use Rattle.grammar.proofs.Pieces.{Sound, ClassIs, class-sound, class-complete, CountIs, count-sound, count-complete}
 use Rattle.grammar.proofs.Sound.{len-class, opens-max, GatherOk, gather-ok}
 

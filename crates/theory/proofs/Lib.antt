@@ -14,7 +14,7 @@ pub mod Numbering
 pub mod Extend
 pub mod Step
 pub mod Ends
-pub mod Bounds
+pub mod Sizes
 -- Witnesses and lines cut differently; the search and the records.
 pub mod Cut
 pub mod Search

@@ -16,13 +16,13 @@ use Rattle.theory.specs.Records.{at, Records, Needs, all-records, up-to-witness
 use Rattle.theory.specs.Code.Search.{Full, SearchEnd}
 use Rattle.theory.proofs.Tests.{T-true, not-true, either}
 use Rattle.grammar.specs.WriteOut.{writeOut}
-use Rattle.grammar.proofs.Adequate.{either-way}
+use Rattle.grammar.proofs.Right.{either-way}
 use Rattle.grammar.proofs.Size.{writeOut-numbered}
 use Rattle.verdict.specs.Table.{body, recordsOf, records, slots, onto}
 use Rattle.verdict.specs.Checked.{Result, alike, unlike, refused, Whole, whole, Checked, by-reader, by-records}
 use Rattle.verdict.specs.Code.Found.{Found, not-read, same-cuts, first-witness, no-slot, no-room}
 use Rattle.theory.proofs.Lines.{snoc-size, snoc-old}
-use Rattle.verdict.proofs.Agree.{Shown, alike-of, unlike-of, full-of, show, same-outcome}
+use Rattle.verdict.proofs.OneEnd.{Shown, alike-of, unlike-of, full-of, show, same-outcome}
 use Rattle.verdict.proofs.Tables.{number-at, origin-at, recordsOf-same}
 use Rattle.verdict.proofs.One.{result, table, witness, found-one}
 use Rattle.verdict.proofs.Finite.{settled}

@@ -17,7 +17,7 @@ use Rattle.verdict.specs.Demand.{NoneCut, FirstCut, Number, Outnumber, L
 use Rattle.verdict.proofs.One.{found, found-exactly}
 use Rattle.verdict.proofs.Checked.{checked-found, checked-exactly}
 use Rattle.verdict.proofs.Promise.{Refused, alike-promise, unlike-promise, ten, eleven, withheld, reader-refusal, kept}
-use Rattle.verdict.proofs.Bytes.{stay-bytes}
+use Rattle.verdict.proofs.StayBytes.{stay-bytes}
 
 -- The right answer is the computed one.
 pub checked-is : (p t v : List ℕ) (x : Result) (t′ v′ : List ℕ) → Checked p t v (whole x t′ v′) ↔ (found p t v ≡ whole x t′ v′)

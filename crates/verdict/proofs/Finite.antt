@@ -16,9 +16,9 @@ use Rattle.theory.specs.Standing.{Standing, standing, member, from, filter, set
 use Rattle.theory.specs.Records.{at, Records, Alike, Unlike}
 use Rattle.theory.specs.Code.Search.{SearchEnd, alike, unlike, full}
 use Rattle.theory.proofs.Tests.{or-left, or-right}
-use Rattle.theory.proofs.Bounds.{order-below, order-size}
+use Rattle.theory.proofs.Sizes.{order-below, order-size}
 use Rattle.theory.proofs.Run.{check}
-use Rattle.verdict.proofs.Meaning.{pigeons}
+use Rattle.verdict.proofs.Words.{pigeons}
 
 -- A digit below b, and a number above it.
 pub digits-less : (b m x y : ℕ) → x < b → y < m → x + b * y < b * m

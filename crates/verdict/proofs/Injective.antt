@@ -15,11 +15,11 @@ use Rattle.theory.specs.Lines.{Below}
 use Rattle.theory.specs.Standing.{standing, member, from, filter, setOf, wanted}
 use Rattle.theory.proofs.Tests.{either, or-cases, or-left, or-right, same-test}
 use Rattle.theory.proofs.Members.{filter-of, filter-passes, member-from}
-use Rattle.theory.proofs.Bounds.{order-below, order-size}
+use Rattle.theory.proofs.Sizes.{order-below, order-size}
 use Rattle.verdict.specs.Bits.{bits, bit, fromBits, pack}
 use Rattle.verdict.specs.Record.{setBits, sixBits, recordBits, recordBytes}
 use Rattle.verdict.proofs.Tables.{length-bits, length-sixBits, record-512}
-use Rattle.verdict.proofs.Bytes.{record-two, drop-below}
+use Rattle.verdict.proofs.StayBytes.{record-two, drop-below}
 use Rattle.verdict.proofs.Packed.{number-one, length-bit, length-set}
 
 -- Bits of one fromBits are one list.

@@ -24,7 +24,7 @@ use Rattle.grammar.proofs.Size.{writeOut-numbered}
 use Rattle.verdict.specs.Table.{records, slots, onto}
 use Rattle.verdict.specs.Checked.{Whole, whole, Result, alike as same, unlike as differ, refused as refuse}
 use Rattle.verdict.specs.Code.Found.{Found, not-read, same-cuts, first-witness, no-slot, no-room}
-use Rattle.verdict.proofs.Agree.{Shown, alike-of, unlike-of, full-of, show, same-outcome}
+use Rattle.verdict.proofs.OneEnd.{Shown, alike-of, unlike-of, full-of, show, same-outcome}
 
 abbrev pub result : Whole → Result
 result (whole x t v) = x

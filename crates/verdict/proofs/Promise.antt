@@ -17,7 +17,7 @@ use Rattle.grammar.specs.Limits.{Reads}
 use Rattle.grammar.specs.Before.{Before}
 use Rattle.grammar.specs.Refusals.{Fault, tooLong, wrong, tooHeavy, Wrong, unopened, bare, unreadySign, unreadyCount, escapeLast, escapeOrdinary, noClass, noCount, tooDeep, leftOpen}
 use Rattle.grammar.specs.WriteOut.{writeOut}
-use Rattle.grammar.proofs.Adequate.{unambiguous, not-both}
+use Rattle.grammar.proofs.Right.{unambiguous, not-both}
 use Rattle.grammar.proofs.Size.{writeOut-numbered}
 use Rattle.verdict.specs.Table.{records, slots, onto}
 use Rattle.verdict.specs.Checked.{Result, alike as same, unlike as differ, refused as refuse}
@@ -25,7 +25,7 @@ use Rattle.verdict.specs.Code.Found.{Found, not-read, same-cuts, first-w
 use Rattle.verdict.specs.Demand.{NoneCut, FirstCut, Number, Outnumber, Longer}
 use Rattle.verdict.proofs.Tables.{records-size, slots-fit, onto-length}
 use Rattle.theory.proofs.Lines.{snoc-size}
-use Rattle.verdict.proofs.Meaning.{alike-none, first-cut, first-unique, alike-number, unlike-number, full-outnumbers, alike-enough, unlike-enough}
+use Rattle.verdict.proofs.Words.{alike-none, first-cut, first-unique, alike-number, unlike-number, full-outnumbers, alike-enough, unlike-enough}
 
 -- The reader's refusals are 1 to 8.
 wrong-number : {o : Before} {s : List ℕ} {n : ℕ} → Wrong o s n → n ≤ 8

@@ -27,7 +27,7 @@ use Rattle.verdict.specs.Record.{recordBits, recordBytes}
 use Rattle.verdict.specs.Table.{same, numberOf, recordsOf, records, slots, onto}
 use Rattle.verdict.specs.Checked.{Whole, whole, Result, alike, unlike, refused as refuse}
 use Rattle.verdict.specs.Starred.{Row, cuts, checks, Holds, All, starred}
-use Rattle.verdict.proofs.Agree.{Shown, alike-of, unlike-of, full-of, show}
+use Rattle.verdict.proofs.OneEnd.{Shown, alike-of, unlike-of, full-of, show}
 use Rattle.verdict.proofs.Checked.{checked-exactly}
 use Rattle.verdict.proofs.One.{answer, searched, read-answer, found, found-exactly}
 

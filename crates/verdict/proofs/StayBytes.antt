@@ -17,7 +17,7 @@ use Rattle.verdict.specs.Record.{setBits, sixBits, recordBits, recordByt
 use Rattle.verdict.specs.Table.{body, lastByte, numberOf, recordOf, recordsOf, records, onto}
 use Rattle.verdict.specs.Checked.{Result}
 use Rattle.verdict.specs.Code.Found.{Found, not-read, same-cuts, first-witness, no-slot, no-room}
-use Rattle.verdict.proofs.Meaning.{first-cut}
+use Rattle.verdict.proofs.Words.{first-cut}
 
 bits-two : (d n : ℕ) → Below 2 (bits d n)
 unfolding bits

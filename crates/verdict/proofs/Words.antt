@@ -20,7 +20,7 @@ use Rattle.theory.proofs.Lines.{≺-irrefl, ≺-trans, ≺-total, below-left, b
 use Rattle.theory.proofs.Records.{alike-right, unlike-first}
 use Rattle.theory.proofs.Run.{check}
 use Rattle.verdict.specs.Demand.{NoneCut, FirstCut, Number, Needed, Outnumber}
-use Rattle.verdict.proofs.Agree.{common, no-earlier, alike-full}
+use Rattle.verdict.proofs.OneEnd.{common, no-earlier, alike-full}
 
 -- A part of a line is shorter, or it is the line.
 part-of : (w u v t : List ℕ) → w ≡ u ++ (v ++ t) → (v ≡ w) ⊎ (length v < length w)
