@@ -50,22 +50,30 @@ nodes-pos (star x) = omega arith
 pub at-whole : (r : Re) (n : ℕ) → suc n ≡ nodes r → At (tokens r) n r
 at-whole r n e = at [] [] (append-nil (tokens r)) (omega arith)
 
--- The right part of a sequence ends one place before, and the left one before all of the right one.
+-- A part of two parts, x and then y: y ends one place before it, and x before all of y.
+module _ (l : List Token) (n : ℕ) (x y r : Re) (t : Token) (is : tokens r ≡ tokens x ++ (tokens y ++ (t ∷ []))) (size : nodes r ≡ suc (nodes x + nodes y)) where
+  pub pair-right : At l n r → At l (n - 1) y
+  pair-right (at a z e h) =
+      at (a ++ tokens x) (t ∷ z) (simp append-assoc (simp append-assoc at (rw is at e))) (omega (arith, length-append a (tokens x), tokens-length x, nodes-pos y))
+
+  pub pair-left : At l n r → At l (n - 1 - nodes y) x
+  pair-left (at a z e h) = at a (tokens y ++ (t ∷ z)) (simp append-assoc at (rw is at e)) (omega (arith, nodes-pos x))
+
 pub seq-right : (l : List Token) (n : ℕ) (x y : Re) → At l n (seq x y) → At l (n - 1) y
 unfolding tokens nodes
-seq-right l n x y (at a z e h) = at (a ++ tokens x) (both ∷ z) (simp append-assoc (simp append-assoc at e)) (omega (arith, length-append a (tokens x), tokens-length x, nodes-pos y))
+seq-right l n x y = pair-right l n x y (seq x y) both refl refl
 
 pub seq-left : (l : List Token) (n : ℕ) (x y : Re) → At l n (seq x y) → At l (n - 1 - nodes y) x
 unfolding tokens nodes
-seq-left l n x y (at a z e h) = at a (tokens y ++ (both ∷ z)) (simp append-assoc at e) (omega (arith, nodes-pos x))
+seq-left l n x y = pair-left l n x y (seq x y) both refl refl
 
 pub alt-right : (l : List Token) (n : ℕ) (x y : Re) → At l n (alt x y) → At l (n - 1) y
 unfolding tokens nodes
-alt-right l n x y (at a z e h) = at (a ++ tokens x) (or ∷ z) (simp append-assoc (simp append-assoc at e)) (omega (arith, length-append a (tokens x), tokens-length x, nodes-pos y))
+alt-right l n x y = pair-right l n x y (alt x y) or refl refl
 
 pub alt-left : (l : List Token) (n : ℕ) (x y : Re) → At l n (alt x y) → At l (n - 1 - nodes y) x
 unfolding tokens nodes
-alt-left l n x y (at a z e h) = at a (tokens y ++ (or ∷ z)) (simp append-assoc at e) (omega (arith, nodes-pos x))
+alt-left l n x y = pair-left l n x y (alt x y) or refl refl
 
 pub star-part : (l : List Token) (n : ℕ) (x : Re) → At l n (star x) → At l (n - 1) x
 unfolding tokens nodes

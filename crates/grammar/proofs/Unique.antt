@@ -15,14 +15,7 @@ use Rattle.grammar.specs.Refusals.{Answer, accepted, refused, ClassAt, C
 use Rattle.grammar.proofs.Texts.{len-repeat}
 use Rattle.grammar.proofs.Pieces.{Sound, ClassIs, class-sound, class-complete, CountIs, count-sound, count-complete}
 use Rattle.grammar.proofs.Sound.{len-class, opens-max, GatherOk, gather-ok}
-
-T-true : (c : Bool) → T c → c ≡ true
-T-true true t = refl
-T-true false t = absurd t
-
-not-T : (c : Bool) → (T c → ⊥) → c ≡ false
-not-T true h = absurd (h tt)
-not-T false h = refl
+use Rattle.theory.proofs.Tests.{T-true, not-true}
 
 -- A step uses up bytes.
 abbrev Short : List ℕ → Move → Type 0
@@ -272,12 +265,12 @@ run-wrong o s n w (leftOpen h) = run-nil o ∙ never-whole o (gather o (last not
 refused-unique : (p : List ℕ) (n q : ℕ) → Fault p n q → read p ≡ refused n q
 unfolding read
 refused-unique p n q (tooLong h e d) =
-    rw (e, d, not-T (leb (length p) 255) (λ t. omega (arith, leb→le (length p) 255 t))) refl
+    rw (e, d, not-true (leb (length p) 255) (λ t. omega (arith, leb→le (length p) 255 t))) refl
 refused-unique p n q (wrong short o s w e k d) =
     read-run p short ∙ rw (← e, run-before o s w, d) (run-wrong o s n w k)
 refused-unique p n q (tooHeavy short t w h e heavy m d) =
     read-run p short
-    ∙ rw (← e, whole-run t w h, not-T (leb (heaviest t) 64) (λ c. omega (arith, leb→le (heaviest t) 64 c)), m, d, ← e, text-alternation t start []) refl
+    ∙ rw (← e, whole-run t w h, not-true (leb (heaviest t) 64) (λ c. omega (arith, leb→le (heaviest t) 64 c)), m, d, ← e, text-alternation t start []) refl
 
 -- A pattern has one right answer: the reader's.
 pub right-unique : (p : List ℕ) (a : Answer) → Right p a → read p ≡ a

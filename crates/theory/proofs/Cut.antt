@@ -28,7 +28,7 @@ span-end : {i k m : ℕ} → span i k ≡ span i m → k ≡ m
 span-end e = cc
 
 -- Shifting: a line with u in front has the list of the line, moved by u's length.
-abbrev shift : ℕ → List (Outcome ℕ) → List (Outcome ℕ)
+abbrev pub shift : ℕ → List (Outcome ℕ) → List (Outcome ℕ)
 shift c l = replace (λ k. endsAt (c + k) ∷ []) want l
 
 shift-andThen : (c : ℕ) (F G : ℕ → List (Outcome ℕ)) {P Q : ℕ → Type 0} {l : List (Outcome ℕ)}

@@ -27,6 +27,8 @@ pub mod Preference
 pub mod Linear
 pub mod Denotation
 pub mod Examples
+-- Demand 2 in its words.
+pub mod Demand
 -- For code: closures without duplicates, one pass back and one forward.
 pub mod Closure
 pub mod Head

@@ -18,7 +18,7 @@ use Rattle.theory.specs.Code.Passes.{forward, farthest, leftmostStart, s
 use Rattle.theory.proofs.Extend.{place, outcomes-end}
 use Rattle.theory.proofs.Step.{step, step-start}
 use Rattle.theory.proofs.Ends.{first-moves, greatest-moves}
-use Rattle.theory.proofs.Cut.{from-place, shift-first, shift-greatest}
+use Rattle.theory.proofs.Cut.{shift, from-place, shift-first, shift-greatest}
 use Rattle.theory.proofs.Head.{greedy-from, posix-from, leftmost-some}
 
 -- At the line's end.
@@ -75,22 +75,25 @@ module _ (r : Re) (d : Numbered 0 r) where
   greatest-start : greatestEnd (outcomes r [] 0) ≡ cond (standing r [] .some) (some 0) none
   greatest-start = ap greatestEnd (outcomes-end r []) ∙ greatest-place 0 (start r) ∙ ap (λ s. cond (s .some) (some 0) none) (sym (step-start r))
 
+  -- An end e that moves where f holds, and moves with the line: from the place i it is the last place where f holds.
+  module _ (f : Standing → Bool) (e : List (Outcome ℕ) → Option ℕ)
+      (moves : (u : List ℕ) (b : ℕ) → e (outcomes r (u ++ (b ∷ [])) 0) ≡ cond (f (standing r (u ++ (b ∷ [])))) (some (suc (length u))) (e (outcomes r u 0)))
+      (starts : e (outcomes r [] 0) ≡ cond (f (standing r [])) (some 0) none)
+      (shifts : (i : ℕ) (l : List (Outcome ℕ)) → e (shift i l) ≡ Option·map (λ k. i + k) (e l)) where
+    last-place : (w : List ℕ) (i : ℕ) → i ≤ length w → e (outcomes r w i) ≡ farthest r f (drop i w) i
+    last-place w i h =
+        ap e (from-place r w i h)
+        ∙ shifts i (outcomes r (drop i w) 0)
+        ∙ ap (Option·map (λ k. i + k)) (sym (forward-line f e moves (drop i w) []))
+        ∙ forward-shift f i (drop i w) (standing r []) 0 (e (outcomes r [] 0))
+        ∙ ap₂ (forward r f (drop i w) (standing r [])) (add-zero i) (ap (Option·map (λ k. i + k)) starts ∙ shift-start (f (standing r [])) i)
+
   -- THE GREEDY END FROM THE PLACE i IS THE LAST PLACE WHERE (b) HOLDS, AND THE POSIX END THE LAST WHERE (d) HOLDS.
   pub greedy-end : (w : List ℕ) (i : ℕ) → i ≤ length w → firstEnd (outcomes r w i) ≡ farthest r (λ s. s .first) (drop i w) i
-  greedy-end w i h =
-      ap firstEnd (from-place r w i h)
-      ∙ shift-first i (outcomes r (drop i w) 0)
-      ∙ ap (Option·map (λ k. i + k)) (sym (forward-line (λ s. s .first) firstEnd (λ u b. first-moves r d u b) (drop i w) []))
-      ∙ forward-shift (λ s. s .first) i (drop i w) (standing r []) 0 (firstEnd (outcomes r [] 0))
-      ∙ ap₂ (forward r (λ s. s .first) (drop i w) (standing r [])) (add-zero i) (ap (Option·map (λ k. i + k)) first-start ∙ shift-start (standing r [] .first) i)
+  greedy-end = last-place (λ s. s .first) firstEnd (first-moves r d) first-start shift-first
 
   pub posix-end : (w : List ℕ) (i : ℕ) → i ≤ length w → greatestEnd (outcomes r w i) ≡ farthest r (λ s. s .some) (drop i w) i
-  posix-end w i h =
-      ap greatestEnd (from-place r w i h)
-      ∙ shift-greatest i (outcomes r (drop i w) 0)
-      ∙ ap (Option·map (λ k. i + k)) (sym (forward-line (λ s. s .some) greatestEnd (λ u b. greatest-moves r d u b) (drop i w) []))
-      ∙ forward-shift (λ s. s .some) i (drop i w) (standing r []) 0 (greatestEnd (outcomes r [] 0))
-      ∙ ap₂ (forward r (λ s. s .some) (drop i w) (standing r [])) (add-zero i) (ap (Option·map (λ k. i + k)) greatest-start ∙ shift-start (standing r [] .some) i)
+  posix-end = last-place (λ s. s .some) greatestEnd (greatest-moves r d) greatest-start shift-greatest
 
   -- Where nothing is wanted any more the pass may stop.
   pub greedy-stop : (rest : List ℕ) (s : Standing) (i : ℕ) (o : Option ℕ) → s .order ≡ [] → forward r (λ s. s .first) rest s i o ≡ o

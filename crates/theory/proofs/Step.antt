@@ -1,6 +1,6 @@
 -- The standing of a line that grew by a byte is the next of its standing: what a standing forgets of its list counts for nothing.
 -- Assumes nothing.
-use mathlib.Core.Path.{_≡_, refl, sym, _∙_, subst}
+use mathlib.Core.Path.{_≡_, refl, sym, ap, _∙_, subst}
 use Prim.Native.Nat.{ℕ, suc, _≤_, _<_}
 use mathlib.Core.Bool.{Bool, true, false, _||_, cond, true≢false}
 use mathlib.Core.List.{List, [], _∷_, _++_, append-nil, append-assoc}
@@ -10,7 +10,7 @@ use lib.Dec.{T, eqb, eqb→eq, eqb-refl}
 use Rattle.theory.specs.Pattern.{Re, count, Numbered}
 use Rattle.theory.specs.Outcomes.{Outcome, endsAt, wants, outcomes}
 use Rattle.theory.specs.Code.Follow.{Next, start, after, hasEnd}
-use Rattle.theory.specs.Standing.{fronts, wanted, firstIs, someIs, member, gather, once, from, setOf, standing}
+use Rattle.theory.specs.Standing.{fronts, wanted, firstIs, someIs, member, gather, once, from, setOf, Standing, standing}
 use Rattle.theory.specs.Code.Next.{afters, next}
 use Rattle.theory.proofs.Outcomes.{AllOut, none, end, wish, all-map}
 use Rattle.theory.proofs.Equations.{Leaf, outcomes-all}
@@ -188,6 +188,16 @@ step r d w b =
     rw (size, grown, grow-some r b (length w) inside)
     (afters-same-end r b (wanted l) (setOf r (wanted l)) (setOf-above r (wanted l) leaves) (setOf-below r (wanted l))) in
     λ i. record { order = o i; first = f i; all = a i; some = s i }
+
+-- (a) AND (b) FROM (a) ALONE, (c) AND (d) FROM (c) ALONE.
+module _ (r : Re) (s t : Standing) (b : ℕ) where
+  pub next-greedy : s .order ≡ t .order → (next r s b .order ≡ next r t b .order) × (next r s b .first ≡ next r t b .first)
+  unfolding next
+  next-greedy e = (ap (λ l. once (fronts (afters r b l))) e, ap (λ l. hasEnd (afters r b l)) e)
+
+  pub next-posix : s .all ≡ t .all → (next r s b .all ≡ next r t b .all) × (next r s b .some ≡ next r t b .some)
+  unfolding next
+  next-posix e = (ap (λ l. setOf r (wanted (afters r b l))) e, ap (λ l. hasEnd (afters r b l)) e)
 
 -- THE FIRST STANDING, from what depends on no line.
 pub step-start : (r : Re) → standing r [] ≡ record { order = once (fronts (start r)); first = hasEnd (start r); all = setOf r (wanted (start r)); some = hasEnd (start r) }

@@ -8,4 +8,5 @@ pub mod Standing
 pub mod Lines
 pub mod Records
 pub mod Preference
+pub mod Demand
 pub mod Code

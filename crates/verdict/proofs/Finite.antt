@@ -18,6 +18,7 @@ use Rattle.theory.specs.Code.Search.{SearchEnd, alike, unlike, full}
 use Rattle.theory.proofs.Tests.{or-left, or-right}
 use Rattle.theory.proofs.Sizes.{order-below, order-size}
 use Rattle.theory.proofs.Run.{check}
+use Rattle.theory.proofs.Members.{length-from}
 use Rattle.verdict.proofs.Words.{pigeons}
 
 -- A digit below b, and a number above it.
@@ -89,10 +90,6 @@ filter-size f (p ∷ l) = go (f p) (filter-size f l)
 from-small : (c n d : ℕ) → n + d ≤ c → Small c (from n d)
 from-small c n zero h = tt
 from-small c n (suc d) h = (omega arith, from-small c (suc n) d (omega arith))
-
-length-from : (n d : ℕ) → length (from n d) ≡ d
-length-from n zero = refl
-length-from n (suc d) = ap suc (length-from (suc n) d)
 
 bool : Bool → ℕ
 bool true = 1

@@ -18,9 +18,9 @@ use Rattle.theory.proofs.Members.{filter-of, filter-passes, member-from}
 use Rattle.theory.proofs.Sizes.{order-below, order-size}
 use Rattle.verdict.specs.Bits.{bits, bit, fromBits, pack}
 use Rattle.verdict.specs.Record.{setBits, sixBits, recordBits, recordBytes}
-use Rattle.verdict.proofs.Tables.{length-bits, length-sixBits, record-512}
+use Rattle.verdict.proofs.Tables.{length-bits, length-sixBits, record-512, length-bit}
 use Rattle.verdict.proofs.StayBytes.{record-two, drop-below}
-use Rattle.verdict.proofs.Packed.{number-one, length-bit, length-set}
+use Rattle.verdict.proofs.Packed.{number-one, length-set}
 
 -- Bits of one fromBits are one list.
 

@@ -11,7 +11,7 @@ use lib.Seq.{take-at, drop-at}
 use Rattle.theory.specs.Standing.{Standing, member, from}
 use Rattle.verdict.specs.Bits.{bits, bit, fromBits, pack}
 use Rattle.verdict.specs.Record.{setBits, sixBits, recordBits, recordBytes}
-use Rattle.verdict.proofs.Tables.{length-bits}
+use Rattle.verdict.proofs.Tables.{length-bit, length-bits}
 use Rattle.verdict.proofs.Finite.{digits-same, digits-less}
 
 -- The lowest d+1 bits are the bit d and the lowest d.
@@ -112,10 +112,6 @@ plus3 (suc n) m = suc (suc (suc (plus3 n m)))
 set-append : (l a b : List ℕ) → setBits l (a ++ b) ≡ setBits l a ++ setBits l b
 set-append l [] b = refl
 set-append l (p ∷ a) b = ap (λ x. bit (member p l) ++ x) (set-append l a b) ∙ sym (append-assoc (bit (member p l)) (setBits l a) (setBits l b))
-
-pub length-bit : (c : Bool) → length (bit c) ≡ 1
-length-bit true = refl
-length-bit false = refl
 
 pub length-set : (l m : List ℕ) → length (setBits l m) ≡ length m
 length-set l [] = refl

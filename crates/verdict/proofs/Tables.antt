@@ -26,7 +26,7 @@ unfolding bits
 length-bits zero n = refl
 length-bits (suc d) n = ap suc (length-bits d n)
 
-length-bit : (c : Bool) → length (bit c) ≡ 1
+pub length-bit : (c : Bool) → length (bit c) ≡ 1
 length-bit true = refl
 length-bit false = refl
 

@@ -14,7 +14,7 @@ use Rattle.theory.specs.Lines.{Below, _≺_}
 use Rattle.theory.specs.Records.{at, Records, Alike, Unlike}
 use Rattle.theory.specs.Code.Search.{Full, SearchEnd, alike, unlike, full}
 use Rattle.theory.proofs.Tests.{either, or-cases}
-use Rattle.theory.proofs.Members.{member-from, Once, nil, cons, once-size}
+use Rattle.theory.proofs.Members.{length-from, member-from, Once, nil, cons, once-size}
 use Rattle.theory.proofs.Cut.{witness-cut, cut-witness}
 use Rattle.theory.proofs.Lines.{≺-irrefl, ≺-trans, ≺-total, below-left, below-right, snoc-size, snoc-last}
 use Rattle.theory.proofs.Records.{alike-right, unlike-first}
@@ -72,10 +72,6 @@ module _ {S : Type 0} (n : ℕ) (f g : ℕ → S) where
     where
       clash : T (member (top h .0) (holes m (fewer h))) → ⊥
       clash t = let (a, (k, l, e)) = holes-member m (fewer h) (top h .0) t in other k m l (omega arith) (sym e ∙ top h .2)
-
-length-from : (n d : ℕ) → length (from n d) ≡ d
-length-from n zero = refl
-length-from n (suc d) = ap suc (length-from (suc n) d)
 
 pub pigeons : {S : Type 0} (n : ℕ) (f g : ℕ → S) (m : ℕ) → ((k : ℕ) → k < m → (j : ℕ) × (j < n) × (f j ≡ g k)) → ((j k : ℕ) → j < k → k < m → g j ≢ g k) → m ≤ n
 pigeons n f g m h other =
