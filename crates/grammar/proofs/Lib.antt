@@ -12,3 +12,4 @@ pub mod Place
 pub mod Size
 pub mod Tokens
 pub mod Suffix
+pub mod Codes

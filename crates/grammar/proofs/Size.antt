@@ -19,7 +19,7 @@ pub writeOut-numbered : (t : Alternation) → Numbered 0 (writeOut t)
 unfolding writeOut
 writeOut-numbered t = number-right 0 (shape t)
 
-number-nodes : (n : ℕ) (r : Re) → nodes (number n r) ≡ nodes r
+pub number-nodes : (n : ℕ) (r : Re) → nodes (number n r) ≡ nodes r
 unfolding number nodes
 number-nodes n empty = refl
 number-nodes n (leaf p s) = refl

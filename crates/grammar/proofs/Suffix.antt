@@ -6,14 +6,9 @@ use mathlib.Core.List.{List, [], _∷_, _++_, append-assoc, append-nil}
 use lib.ListN.{replicate}
 use Rattle.theory.specs.Pattern.{Re, opt}
 use Rattle.grammar.specs.WriteOut.{chain, optional}
-use Rattle.grammar.specs.Code.Tokens.{Token, nil, both, or, tokens}
+use Rattle.grammar.specs.Code.Tokens.{blocks, Token, nil, both, or, tokens}
 
--- n copies of the block, then z.
-abbrev pub blocks : ℕ → List Token → List Token → List Token
-blocks zero b z = z
-blocks (suc n) b z = b ++ blocks n b z
-
-blocks-append : (n : ℕ) (b z w : List Token) → blocks n b z ++ w ≡ blocks n b (z ++ w)
+pub blocks-append : {A : Type 0} (n : ℕ) (b z w : List A) → blocks n b z ++ w ≡ blocks n b (z ++ w)
 blocks-append zero b z w = refl
 blocks-append (suc n) b z w = append-assoc b (blocks n b z) w ∙ ap (λ l. b ++ l) (blocks-append n b z w)
 

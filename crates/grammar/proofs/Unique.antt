@@ -6,7 +6,7 @@ use mathlib.Core.Bool.{Bool, true, false, cond}
 use mathlib.Core.List.{List, [], _∷_}
 use native.Mathlib.Omega.{arith}
 use lib.ListN.{length}
-use lib.Dec.{T, leb, ltb, le→leb, lt→ltb, leb→le}
+use lib.Dec.{leb, ltb, le→leb, lt→ltb, leb→le}
 use Rattle.grammar.specs.Grammar.{plain, escaped, Repeat, once, many, more, maybe, exactly, atLeast, between, Alternation, last, or, Sequence, nothing, part, Atom, byte, dot, class, group, Kind, ordinary, backslash, bar, opener, closer, bracket, brace, period, stray, sign, kind, special, digitsText, repeatText, alternation, sequence, atom, WfAlternation, WfSequence, WfAtom, WfRepeat}
 use Rattle.grammar.specs.Limits.{depth, depthSequence, depthAtom, heaviest, Reads}
 use Rattle.grammar.specs.Before.{Before, start, barred, opened, after, text, opens, ready, WfBefore}

@@ -1,6 +1,6 @@
 -- A written-out pattern as a list of tokens, each part after the parts that it has.
 -- Assumes nothing.
-use Prim.Native.Nat.{ℕ, suc, _+_}
+use Prim.Native.Nat.{ℕ, zero, suc, _+_}
 use mathlib.Core.Bool.{Bool}
 use mathlib.Core.List.{List, [], _∷_, _++_}
 use Rattle.theory.specs.Pattern.{Re, empty, leaf, seq, alt, star}
@@ -55,3 +55,8 @@ leafs (both ∷ l) = leafs l
 leafs (or ∷ l) = leafs l
 leafs (many ∷ l) = leafs l
 leafs (byte p s ∷ l) = suc (leafs l)
+
+-- n copies of a block, then z: how a repeat is written.
+abbrev pub blocks : {A : Type 0} → ℕ → List A → List A → List A
+blocks zero b z = z
+blocks (suc n) b z = b ++ blocks n b z

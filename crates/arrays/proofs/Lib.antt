@@ -1,0 +1,7 @@
+-- The laws of the arrays: of each pass, and that the arrays so made are the pattern.
+mod Bits
+mod Numbering
+mod Sizes
+mod Masks
+mod Parts
+mod Right

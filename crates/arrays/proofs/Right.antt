@@ -1,0 +1,114 @@
+-- The arrays that the three passes make decode to the pattern whose tokens the codes are, its leaves numbered from 0.
+-- Assumes nothing.
+use mathlib.Core.Path.{_≡_, refl, sym, ap, _∙_}
+use mathlib.Core.Bool.{Bool, true, false, _&&_}
+use mathlib.Core.List.{List, [], _∷_, _++_, map, append-assoc}
+use Prim.Native.Nat.{ℕ, zero, suc, _+_, _-_, _<_, _≤_, min}
+use native.Mathlib.Omega.{arith}
+use native.Mathlib.Decide.{decLt}
+use lib.ListN.{length, getD, take, drop, length-append, length-map, List·getD-map}
+use lib.Seq.{getD-take, getD-at, take-all, length-take-le}
+use lib.Dec.{ltb}
+use borrow.Author.Tests.{lt-ltb, le-ltb, ltb-true}
+use Rattle.theory.specs.Pattern.{Re, count, number}
+use Rattle.grammar.specs.Code.Tokens.{nodes, nil, both, or, many, byte, tokens, renumber, leafs}
+use Rattle.grammar.specs.Code.Codes.{tokenOf, leafHolds}
+use Rattle.grammar.proofs.Tokens.{at, at-whole, tokens-length, tokens-number, leafs-tokens}
+use Rattle.arrays.specs.Decoded.{part, decode}
+use Rattle.arrays.specs.Passes.{after, kindsFrom, placesOf, Sized, Masked, Numbered}
+use Rattle.arrays.specs.Finished.{Finished}
+use Rattle.arrays.proofs.Numbering.{kinds-below}
+use Rattle.arrays.proofs.Parts.{kindToken, nodes-pos, part-right}
+
+-- The kinds of the codes are their tokens with the leaves numbered: a has the places of the p leaves before them.
+renumbered : (s places l a : List ℕ) (p : ℕ) → length a ≡ p → a ++ placesOf l ≡ places → length places ≤ 64
+    → renumber p (map (tokenOf s) l) ≡ map (kindToken s places) (kindsFrom p l)
+unfolding renumber kindsFrom placesOf
+renumbered s places [] a p h e m = refl
+renumbered s places (zero ∷ l) a p h e m = ap (λ k. nil ∷ k) (renumbered s places l a p h e m)
+renumbered s places (suc zero ∷ l) a p h e m = ap (λ k. both ∷ k) (renumbered s places l a p h e m)
+renumbered s places (suc (suc zero) ∷ l) a p h e m = ap (λ k. or ∷ k) (renumbered s places l a p h e m)
+renumbered s places (suc (suc (suc zero)) ∷ l) a p h e m = ap (λ k. many ∷ k) (renumbered s places l a p h e m)
+renumbered s places (suc (suc (suc (suc q))) ∷ l) a p h e m =
+    let c : ltb (suc (suc (suc (suc q)))) 4 ≡ false = le-ltb (suc (suc (suc (suc q)))) 4 (omega arith) in
+    let z : suc (suc (suc (suc q))) - 4 ≡ q = omega arith in
+    let f : a ++ (q ∷ placesOf l) ≡ places = rw (c, z) at e in
+    let n : length a + suc (length (placesOf l)) ≡ length places = sym (length-append a (q ∷ placesOf l)) ∙ ap length f in
+    let g : getD places p 0 ≡ q = rw (← f) (getD-at a q (placesOf l) 0 p h) in
+    let k : 4 + p ≡ suc (suc (suc (suc p))) = omega arith in
+    let t : p + 1 ≡ suc p = omega arith in
+    rw (c, lt-ltb p 64 (omega arith), k, t, g)
+    (ap (λ u. byte p (λ b. ltb b 256 && leafHolds (drop q s) b) ∷ u)
+    (renumbered s places l (a ++ (q ∷ [])) (suc p) (omega (arith, length-append a (q ∷ []))) (append-assoc a (q ∷ []) (placesOf l) ∙ f) m))
+
+length-kinds : (p : ℕ) (l : List ℕ) → length (kindsFrom p l) ≡ length l
+unfolding kindsFrom
+length-kinds p [] = refl
+length-kinds p (c ∷ l) = ap suc (length-kinds (after p c) l)
+
+length-places : (s l : List ℕ) → length (placesOf l) ≡ leafs (map (tokenOf s) l)
+unfolding placesOf leafs
+length-places s [] = refl
+length-places s (zero ∷ l) = length-places s l
+length-places s (suc zero ∷ l) = length-places s l
+length-places s (suc (suc zero) ∷ l) = length-places s l
+length-places s (suc (suc (suc zero)) ∷ l) = length-places s l
+length-places s (suc (suc (suc (suc q))) ∷ l) = rw (le-ltb (suc (suc (suc (suc q)))) 4 (omega arith)) (ap suc (length-places s l))
+
+-- Only the places of the leaves count.
+masked-taken : (s places masks : List ℕ) (n : ℕ) → Masked s places (λ p. ltb p n) masks → Masked s (take n places) (λ p. ltb p n) masks
+masked-taken s places masks n h b p l = h b p l ∙ go (ltb p n) (ltb-true p n)
+  where
+    go : (t : Bool) → (t ≡ true → p < n) → (t && leafHolds (drop (getD places p 0) s) b) ≡ (t && leafHolds (drop (getD (take n places) p 0) s) b)
+    go true f = rw (getD-take n places p 0 (f refl))
+    go false f = refl
+
+take-within : (len : ℕ) (l : List ℕ) → take len l ≡ take (min len (length l)) l
+take-within len l = go (decLt len (length l))
+  where
+    go : Dec (len < length l) → take len l ≡ take (min len (length l)) l
+    go (yes h) = let m : min len (length l) ≡ len = omega arith in rw m
+    go (no h) = let m : min len (length l) ≡ length l = omega arith in rw m (take-all len l (omega arith) ∙ sym (take-all (length l) l (omega arith)))
+
+-- The passes over the codes l.
+module _
+    (s l places kinds sizes masks : List ℕ) (n leaves : ℕ) (long : length l ≡ n) (numbered : Numbered l (take n kinds) places leaves) (sized : Sized kinds n sizes)
+    (masked : Masked s places (λ p. ltb p leaves) masks) (r : Re) (is : map (tokenOf s) l ≡ tokens r) (room : count r ≤ 64) where
+  count-is : length (placesOf l) ≡ count r
+  count-is = length-places s l ∙ ap leafs is ∙ leafs-tokens r
+
+  places-are : take leaves places ≡ placesOf l
+  places-are = numbered .at ∙ take-all 64 (placesOf l) (omega (arith, count-is))
+
+  tokens-are : tokens (number 0 r) ≡ map (kindToken s (placesOf l)) (kindsFrom 0 l)
+  tokens-are = tokens-number 0 r ∙ ap (renumber 0) (sym is) ∙ renumbered s (placesOf l) l [] 0 refl refl (omega (arith, count-is))
+
+  kind-is : (i : ℕ) → i < n → getD kinds i 0 ≡ getD (kindsFrom 0 l) i 0
+  kind-is i h = sym (getD-take n kinds i 0 h) ∙ ap (λ k. getD k i 0) (numbered .are)
+
+  nodes-are : nodes (number 0 r) ≡ n
+  nodes-are = sym (tokens-length (number 0 r)) ∙ ap length tokens-are ∙ length-map (kindsFrom 0 l) (kindToken s (placesOf l)) ∙ length-kinds 0 l ∙ long
+
+  leaves-are : leaves ≡ count r
+  leaves-are = omega (arith, numbered .counted, count-is)
+
+  arrays-right : part n kinds sizes masks 0 n ≡ number 0 r
+  arrays-right =
+      part-right (tokens (number 0 r)) s (placesOf l) kinds sizes masks n leaves (tokens-length (number 0 r) ∙ nodes-are) (omega (arith, leaves-are))
+      (λ i h. ap (kindToken s (placesOf l)) (kind-is i h) ∙ sym (List·getD-map (kindToken s (placesOf l)) (kindsFrom 0 l) i 0) ∙ ap (λ k. getD k i nil) (sym tokens-are))
+      (λ i h. rw (kind-is i h) (omega (arith, kinds-below 0 l i, leaves-are, count-is)))
+      sized (rw places-are at (masked-taken s places masks leaves masked)) (number 0 r) n 0 n
+      (at-whole (number 0 r) (n - 1) (omega (arith, nodes-are, nodes-pos (number 0 r)))) (omega (arith, nodes-are)) (omega (arith, nodes-are))
+
+  -- As many places as the pattern has parts, and its leaves.
+  pub arrays-measured : (n ≡ nodes r) × (leaves ≡ count r)
+  arrays-measured = (sym long ∙ sym (length-map l (tokenOf s)) ∙ ap length is ∙ tokens-length r, leaves-are)
+
+-- The three passes over the first n codes, as many as there are up to len.
+pub finished : (s codes places kinds sizes masks : List ℕ) (len n leaves : ℕ) → n ≡ min len (length codes)
+    → Numbered (take n codes) (take n kinds) places leaves → Sized kinds n sizes → Masked s places (λ p. ltb p leaves) masks
+    → Finished s (take len codes) (record { kinds = kinds; sizes = sizes; len = n; masks = masks; leaves = leaves })
+unfolding decode
+finished s codes places kinds sizes masks len n leaves e numbered sized masked r is room =
+    let same : take len codes ≡ take n codes = rw e (take-within len codes) in
+    arrays-right s (take n codes) places kinds sizes masks n leaves (length-take-le n codes (omega arith)) numbered sized masked r (rw same at is) room

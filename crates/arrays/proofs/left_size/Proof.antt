@@ -1,0 +1,39 @@
+-- `arrays::left_size` meets its contract, in both cases of the test.
+-- Assumes nothing.
+use Rattle.arrays.proofs.Sizes.{left-some, left-none}
+use borrow.Author.Needs.{needs}
+use Rattle.arrays.proofs.left_size.Statement.{statement}
+use Rattle.arrays.proofs.left_size.Tie as tie
+
+mul-wide : tie.Need-mul-wide
+mul-wide c = search needs
+
+element-copy-out-wide : tie.Need-element-copy-out-wide
+element-copy-out-wide c = search needs
+
+wide-requires : tie.Need-wide-requires
+wide-requires c κs = search needs
+
+mul-result : tie.Need-mul-result
+mul-result c = search needs
+
+element-copy-out-result : tie.Need-element-copy-out-result
+element-copy-out-result c = search needs
+
+returns : tie.Need-returns
+returns c = left-some (c .before .before .before .before .args .sizes .now) (c .before .before .before .before .args .m) (c .before .before .wide .result) (c .before .before .wide .ensures) (c .before .if1 .taken)
+
+returns-2 : tie.Need-returns-2
+returns-2 c = left-none (c .before .before .before .args .sizes .now) (c .before .before .before .args .m) (c .before .wide .result) (c .before .wide .ensures) (c .if1 .left)
+
+pub left-size-spec : {M : Type 1} → statement M
+left-size-spec =
+    tie.close
+    (tie.spec
+    mul-wide
+    element-copy-out-wide
+    wide-requires
+    mul-result
+    element-copy-out-result
+    returns
+    returns-2)

@@ -1,0 +1,53 @@
+-- `arrays::mark_leaf` meets its contract: a leaf that is done changes nothing, and any other is marked with all leaves of its place.
+-- Assumes nothing.
+use mathlib.Core.Path.{sym, _∙_}
+use Rattle.arrays.proofs.Masks.{turn-done, turn-new}
+use borrow.Author.Needs.{needs}
+use Rattle.arrays.proofs.mark_leaf.Statement.{statement}
+use Rattle.arrays.proofs.mark_leaf.Tie as tie
+
+has-requires : tie.Need-has-requires
+has-requires c κs = search needs
+
+returns : tie.Need-returns
+returns c =
+    let a = c .before .before .before .args in
+    turn-done (a .s .now) (a .places .now) (a .n) (a .done) (a .p) (a .masks .now) (c .before .before .before .pre .2) (sym (c .before .has .ensures) ∙ c .if1 .taken)
+
+mul-q : tie.Need-mul-q
+mul-q c = search needs
+
+element-copy-out-q : tie.Need-element-copy-out-q
+element-copy-out-q c = search needs
+
+leaves-at-requires : tie.Need-leaves-at-requires
+leaves-at-requires c κs = search needs
+
+wide-requires : tie.Need-wide-requires
+wide-requires c κs = search needs
+
+mark-all-requires : tie.Need-mark-all-requires
+mark-all-requires c κs = search needs
+
+union-requires : tie.Need-union-requires
+union-requires c κs = search needs
+
+returns-2 : tie.Need-returns-2
+returns-2 c =
+    let a = c .before .before .before .before .before .before .before .before .before .args in
+    let all = rw (c .before .before .before .wide .ensures) at (c .before .mark-all .ensures) in
+    turn-new (a .s .now) (a .places .now) (a .n) (a .done) (a .p) (c .before .before .before .before .leaves-at .result) (c .union .result) (a .masks .now) _ (c .before .before .before .before .before .before .before .before .before .pre .1) (c .before .before .before .before .leaves-at .ensures) all (c .union .ensures)
+
+pub mark-leaf-spec : {M : Type 1} → statement M
+mark-leaf-spec =
+    tie.close
+    (tie.spec
+    has-requires
+    returns
+    mul-q
+    element-copy-out-q
+    leaves-at-requires
+    wide-requires
+    mark-all-requires
+    union-requires
+    returns-2)

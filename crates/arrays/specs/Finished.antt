@@ -1,0 +1,14 @@
+-- The arrays of a list of codes, as the code makes them: leaves numbered from 0, the size of the part that ends at each place, and the mask of each byte.
+-- Assumes nothing.
+use mathlib.Core.Path.{_≡_}
+use Prim.Native.Nat.{ℕ, zero, suc, _≤_}
+use mathlib.Core.List.{List, map}
+use Rattle.theory.specs.Pattern.{Re, count, number}
+use Rattle.grammar.specs.Code.Tokens.{tokens}
+use Rattle.grammar.specs.Code.Codes.{tokenOf}
+use Rattle.arrays.specs.declared.Pattern.{Pattern}
+use Rattle.arrays.specs.Decoded.{decode}
+
+-- The codes l of the pattern p made into the arrays x: where they are the tokens of a pattern r of at most 64 leaves, x is r with its leaves numbered.
+abbrev pub Finished : List ℕ → List ℕ → Pattern → Type 0
+Finished p l x = (r : Re) → map (tokenOf p) l ≡ tokens r → count r ≤ 64 → decode x ≡ number 0 r

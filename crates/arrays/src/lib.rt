@@ -1,0 +1,278 @@
+// The written-out pattern in arrays: what the reader hands over and the matchers walk.
+// `finish` makes the arrays from the reader's codes in three passes: kinds, sizes and masks. Codes that are no pattern give arrays too.
+ghost use mathlib.Core.Path.{_≡_};
+ghost use Prim.Native.Nat.{ℕ, _+_, _<_, _≤_, min};
+ghost use lib.ListN.{length, take, drop};
+ghost use lib.Dec.{ltb};
+ghost use Rattle.grammar.specs.Code.Codes.{leafHolds};
+ghost use Rattle.arrays.specs.Decoded.{hasBit, blank};
+ghost use Rattle.arrays.specs.Passes.{Noted, Numbered, Small, leftSize, sizeOf, sizeAt, Sized, Union, Added, Places, Marked, MarkedTo, Masked, Turn};
+ghost use Rattle.arrays.specs.Finished.{Finished};
+
+// Post-order: a part's last place has its kind and its size, its parts stand before it.
+pub struct Pattern {
+    // 0 the empty sequence, 1 a sequence of two parts, 2 an alternation of two, 3 a star, 4 + p the leaf p
+    pub kinds: [u8; 2303],
+    // how many places the part that ends here has
+    pub sizes: [u16; 2303],
+    pub len: usize,
+    // bit p of masks[b]: the set of the leaf p holds the byte b
+    pub masks: [u64; 256],
+    pub leaves: usize,
+}
+
+impl Pattern {
+    // The limits of paper 01: bytes, brackets open together, weight.
+    pub const MAX_BYTES: usize = 255;
+
+    pub const MAX_DEPTH: usize = 16;
+
+    pub const MAX_WEIGHT: usize = 64;
+    // The most parts of a pattern within the limits.
+    pub const MAX_PARTS: usize = 2303;
+
+    // No parts and no leaves.
+    pub fn empty() -> Pattern
+        ensures blank { λ r. ⌜ r ≡ blank ⌝ }
+    {
+        Pattern {
+            kinds: [0u8; 2303],
+            sizes: [0u16; 2303],
+            len: 0,
+            masks: [0u64; 256],
+            leaves: 0,
+        }
+    }
+}
+
+fn wide(x: u16) -> usize
+    ensures { λ r. ⌜ r ≡ x ⌝ }
+{
+    x as usize
+}
+
+// The kind of the leaf p.
+fn leaf_kind(p: usize) -> u8
+    requires { ⌜ p < 64 ⌝ }
+    ensures { λ r. ⌜ r ≡ 4 + p ⌝ }
+{
+    (4 + p) as u8
+}
+
+// The first pass, at the code c of the place i: its kind, and the place in the text of a leaf. p leaves stand before it; a 65th is not kept.
+fn note(c: u16, i: usize, p: usize, kinds: &mut [u8; 2303], places: &mut [u16; 64]) -> usize
+    requires { ⌜ (i < 2303) × (p ≤ 64) ⌝ }
+    ensures { λ r. ⌜ Noted c i p (now (kinds .entry)) (now (places .entry)) (now (kinds .exit)) (now (places .exit)) r ⌝ }
+{
+    if c < 4 {
+        kinds[i] = c as u8;
+        return p;
+    }
+    if p < 64 {
+        kinds[i] = leaf_kind(p);
+        places[p] = c - 4;
+        return p + 1;
+    }
+    kinds[i] = 0;
+    p
+}
+
+// The kinds of the first n codes, the places of their leaves, and how many leaves there are.
+fn number_leaves(
+    codes: &[u16; 2303],
+    n: usize,
+    kinds: &mut [u8; 2303],
+    places: &mut [u16; 64],
+) -> usize
+    requires { ⌜ (n ≤ 2303) × (n ≤ length (now codes)) × (length (now kinds) ≡ 2303) × (length (now places) ≡ 64) ⌝ }
+    ensures { λ r. ⌜ Numbered (take n (now (codes .entry))) (take n (now (kinds .exit))) (now (places .exit)) r ⌝ }
+{
+    let mut p = 0;
+    let mut i = 0;
+    while i < n {
+        let c = codes[i];
+        p = note(c, i, p, kinds, places);
+        i += 1;
+    }
+    p
+}
+
+// The size of the left one of two parts: it ends before the right one, which ends at the place m.
+fn left_size(m: usize, sizes: &[u16; 2303]) -> u16
+    requires { ⌜ m < 2303 ⌝ }
+    ensures { λ r. ⌜ r ≡ leftSize (now (sizes .entry)) m ⌝ }
+{
+    let a = wide(sizes[m]);
+    if a <= m {
+        return sizes[m - a];
+    }
+    0
+}
+
+// The size of a part of that kind: a is the size of its last part, b of the one before.
+fn size_of(kind: u8, a: u16, b: u16) -> u16
+    requires { ⌜ a + b < 2303 ⌝ }
+    ensures { λ r. ⌜ r ≡ sizeOf kind a b ⌝ }
+{
+    if kind == 0 {
+        return 1;
+    }
+    if 3 < kind {
+        return 1;
+    }
+    if kind == 3 {
+        return a + 1;
+    }
+    a + b + 1
+}
+
+// The second pass, at the place i. What stands before the first place counts as no part.
+fn size_at(kind: u8, i: usize, sizes: &[u16; 2303]) -> u16
+    requires { ⌜ (i < 2303) × Small (now sizes) i ⌝ }
+    ensures { λ r. ⌜ r ≡ sizeAt kind (now (sizes .entry)) i ⌝ }
+{
+    if i == 0 {
+        return 1;
+    }
+    let m = i - 1;
+    size_of(kind, sizes[m], left_size(m, sizes))
+}
+
+// The size of the part that ends at each of the first n places.
+fn fill_sizes(kinds: &[u8; 2303], n: usize, sizes: &mut [u16; 2303])
+    requires { ⌜ (n ≤ 2303) × (length (now sizes) ≡ 2303) ⌝ }
+    ensures { λ _. ⌜ Sized (now (kinds .entry)) n (now (sizes .exit)) ⌝ }
+{
+    let mut i = 0;
+    while i < n {
+        let size = size_at(kinds[i], i, sizes);
+        sizes[i] = size;
+        i += 1;
+    }
+}
+
+fn has(x: u64, p: usize) -> bool
+    requires { ⌜ p < 64 ⌝ }
+    ensures { λ r. ⌜ r ≡ hasBit x p ⌝ }
+{
+    x >> p & 1 == 1
+}
+
+fn union(x: u64, y: u64) -> u64
+    ensures { λ r. ⌜ Union x y r ⌝ }
+{
+    x | y
+}
+
+// The set x, with p if `is`.
+fn add_if(is: bool, x: u64, p: usize) -> u64
+    requires { ⌜ p < 64 ⌝ }
+    ensures { λ r. ⌜ Added is x p r ⌝ }
+{
+    if is {
+        return union(x, 1 << p);
+    }
+    x
+}
+
+// The leaves below n whose text begins at q: they have one set.
+fn leaves_at(places: &[u16; 64], n: usize, q: u16) -> u64
+    requires { ⌜ n ≤ 64 ⌝ }
+    ensures { λ r. ⌜ Places (now (places .entry)) n q r ⌝ }
+{
+    let mut x = 0u64;
+    let mut p = 0;
+    while p < n {
+        x = add_if(places[p] == q, x, p);
+        p += 1;
+    }
+    x
+}
+
+// The mask x of the byte b, with the leaves m if the set of the leaf at q holds it.
+fn mark(s: &[u8], q: usize, m: u64, b: usize, x: u64) -> u64
+    requires { ⌜ b < 256 ⌝ }
+    ensures { λ r. ⌜ Marked (now (s .entry)) q m b x r ⌝ }
+{
+    if scanner::leaf_holds(s, q, b as u8) {
+        return union(x, m);
+    }
+    x
+}
+
+// The same for each byte.
+fn mark_all(s: &[u8], q: usize, m: u64, masks: &mut [u64; 256])
+    requires { ⌜ length (now masks) ≡ 256 ⌝ }
+    ensures { λ _. ⌜ MarkedTo (now (s .entry)) q m 256 (now (masks .entry)) (now (masks .exit)) ⌝ }
+{
+    let mut b = 0;
+    while b < 256 {
+        let x = mark(s, q, m, b, masks[b]);
+        masks[b] = x;
+        b += 1;
+    }
+}
+
+// The third pass, at the leaf p, with all leaves that have its set: those that are done now.
+fn mark_leaf(
+    s: &[u8],
+    places: &[u16; 64],
+    n: usize,
+    done: u64,
+    p: usize,
+    masks: &mut [u64; 256],
+) -> u64
+    requires { ⌜ (n ≤ 64) × (p < n) × (length (now masks) ≡ 256) ⌝ }
+    ensures { λ r. ⌜ Turn (now (s .entry)) (now (places .entry)) n done p (now (masks .entry)) (now (masks .exit)) r ⌝ }
+{
+    if has(done, p) {
+        return done;
+    }
+    let q = places[p];
+    let m = leaves_at(places, n, q);
+    mark_all(s, wide(q), m, masks);
+    union(done, m)
+}
+
+// The masks of the first n leaves.
+fn masks_of(s: &[u8], places: &[u16; 64], n: usize) -> [u64; 256]
+    requires { ⌜ n ≤ 64 ⌝ }
+    ensures { λ r. ⌜ Masked (now (s .entry)) (now (places .entry)) (λ p. ltb p n) r ⌝ }
+{
+    let mut masks = [0u64; 256];
+    let mut done = 0u64;
+    let mut p = 0;
+    while p < n {
+        done = mark_leaf(s, places, n, done, p, &mut masks);
+        p += 1;
+    }
+    masks
+}
+
+// How many codes there are: no more than the array has.
+fn within(codes: &[u16; 2303], len: usize) -> usize
+    ensures { λ r. ⌜ (r ≤ 2303) × (r ≡ min len (length (now (codes .entry)))) ⌝ }
+{
+    let all = &codes[..];
+    if len < all.len() { len } else { all.len() }
+}
+
+// The pattern whose codes for the text s are the first len ones: its leaves are numbered from 0, left to right.
+pub fn finish(s: &[u8], codes: &[u16; 2303], len: usize) -> Pattern
+    ensures finished { λ r. ⌜ Finished (now (s .entry)) (take len (now (codes .entry))) r ⌝ }
+{
+    let n = within(codes, len);
+    let mut kinds = [0u8; 2303];
+    let mut sizes = [0u16; 2303];
+    let mut places = [0u16; 64];
+    let leaves = number_leaves(codes, n, &mut kinds, &mut places);
+    fill_sizes(&kinds, n, &mut sizes);
+    let masks = masks_of(s, &places, leaves);
+    Pattern {
+        kinds,
+        sizes,
+        len: n,
+        masks,
+        leaves,
+    }
+}

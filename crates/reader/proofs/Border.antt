@@ -1,0 +1,124 @@
+-- What the reader hands over is right: from what was found from the pattern's start.
+-- Assumes nothing.
+use mathlib.Core.Path.{_≡_, refl, sym, ap, _∙_}
+use Prim.Native.Nat.{ℕ, _+_, _≤_, _<_}
+use mathlib.Core.Bool.{Bool, true, false, not, cond}
+use mathlib.Core.List.{List, [], _∷_, map}
+use native.Mathlib.Omega.{arith}
+use lib.ListN.{length, take, drop, replicate, length-replicate, length-drop, length-map}
+use lib.Seq.{take-all}
+use lib.Dec.{T, ltb, ltb→lt, lt→ltb, nltb→le}
+use Rattle.theory.proofs.Tests.{T-true, not-true}
+use Rattle.theory.proofs.Numbering.{number-count}
+use Rattle.grammar.specs.Grammar.{alternation}
+use Rattle.grammar.specs.Limits.{heaviest, Reads}
+use Rattle.grammar.specs.WriteOut.{shape, writeOut}
+use Rattle.grammar.specs.Before.{Before, start, text}
+use Rattle.grammar.specs.Refusals.{Fault, tooLong, wrong, tooHeavy, unopened}
+use Rattle.grammar.specs.Refusals as Due
+use Rattle.grammar.specs.Code.Codes.{tokenOf}
+use Rattle.grammar.proofs.Size.{weight-heaviest, leaves-64, nodes-2303, number-nodes}
+use Rattle.grammar.proofs.Tokens.{tokens-length}
+use Rattle.grammar.proofs.Unique.{afterAlternation, text-alternation}
+use Rattle.grammar.proofs.Place.{text-length, alternation-formed, opens-alternation}
+use Rattle.tokens.specs.Held.{Holds}
+use Rattle.arrays.specs.declared.Pattern.{Pattern}
+use Rattle.arrays.specs.Decoded.{decode, blank}
+use Rattle.arrays.specs.Finished.{Finished}
+use Rattle.reader.specs.declared.Part.{Part}
+use Rattle.reader.specs.declared.Part.the-variants.{Read, Refused}
+use Rattle.reader.specs.declared.Answer.{Answer}
+use Rattle.reader.specs.declared.Answer.the-variants.{Accepted}
+use Rattle.reader.specs.declared.Answer.the-variants as Answer
+use Rattle.reader.specs.Reading.{ReadRight, accepted}
+use Rattle.reader.specs.Steps.{Weighs, light, heavy, Alternated, AlternationRead, found-part, found-fault, answerBy}
+use Rattle.reader.proofs.Begins.{byte-drop, drop-all}
+
+pub read-long : (p : List ℕ) (x : Pattern) → 255 < length p → x ≡ blank → ReadRight p (record { answer = Answer.Refused 1 255; pattern = x })
+read-long p x h e = record { answer = Due.refused 1 255; right = tooLong h refl refl; means = refl; empty = e }
+
+-- The array before anything is written.
+pub holds-none : Holds (replicate 2303 0) 0 []
+holds-none = record { size = length-replicate {A = ℕ} 2303 0; used = refl; same = refl }
+
+module _ {p a b : List ℕ} {n m e c : ℕ} (short : length p ≤ 255) (t : Alternated p 0 0 e c a n b m) where
+  -- It ends before a `)` that has no `(`,
+  pub found-close : e < length p → Fault p 2 e
+  found-close h =
+      let o : Before = afterAlternation start (t .t) in
+      let s : text o (drop e p) ≡ p = text-alternation (t .t) start (drop e p) ∙ t .text in
+      let g : drop e p ≡ 41 ∷ drop (e + 1) p = byte-drop p e 41 h (t .end h) in
+      wrong short o (41 ∷ drop (e + 1) p) (alternation-formed (t .t) start tt (t .formed) (t .shallow)) (rw (← g) s)
+      (unopened (drop (e + 1) p) (opens-alternation (t .t) start))
+      (omega (arith, text-length o (drop e p), ap length s, length-drop e p))
+
+  -- or is the pattern: too heavy,
+  module _ (all : length p ≤ e) where
+    at-end : e ≡ length p
+    at-end = omega (arith, t .inside)
+
+    whole-text : alternation (t .t) [] ≡ p
+    whole-text = ap (alternation (t .t)) (sym (drop-all p e at-end)) ∙ t .text
+
+    too-heavy : {w : ℕ} → Weighs c w (heaviest (t .t)) → w ≤ heaviest (t .t) → 64 < c → 64 < heaviest (t .t)
+    too-heavy (light x y z) k h = absurd (omega arith)
+    too-heavy (heavy x y) k h = omega arith
+
+    pub found-heavy : 64 < c → Fault p 8 e
+    found-heavy h =
+        tooHeavy short (t .t) (t .formed) (omega (arith, t .shallow)) whole-text (too-heavy (t .load) (weight-heaviest (t .t)) h) refl at-end
+
+    not-heavy : {w : ℕ} → Weighs c w (heaviest (t .t)) → c ≤ 64 → heaviest (t .t) ≤ 64
+    not-heavy (light x y z) h = z
+    not-heavy (heavy x y) h = absurd (omega arith)
+
+    -- or within the limits.
+    pub found-tree : c ≤ 64 → Reads p (t .t)
+    found-tree h = record { text = whole-text; formed = t .formed; short = short; shallow = omega (arith, t .shallow); light = not-heavy (t .load) h }
+
+    -- Its codes all fit, so the arrays made of them are the written-out pattern.
+    pub found-written : c ≤ 64 → a ≡ replicate 2303 0 → n ≡ 0 → (x : Pattern) → Finished p (take m b) x → decode x ≡ writeOut (t .t)
+    unfolding writeOut
+    found-written h z y x f =
+        let r = found-tree h in
+        let holds : Holds b m (t .wrote .codes) = t .wrote .holds [] (rw (z, y) holds-none) in
+        let size : length (t .wrote .codes) ≤ 2303 =
+        omega (arith, sym (length-map (t .wrote .codes) (tokenOf p)) ∙ ap length (t .wrote .are) ∙ tokens-length (shape (t .t)), number-nodes 0 (shape (t .t)), nodes-2303 p (t .t) r) in
+        let codes : take m b ≡ t .wrote .codes = holds .same ∙ take-all 2303 (t .wrote .codes) size in
+        f (shape (t .t)) (ap (map (tokenOf p)) codes ∙ t .wrote .are) (omega (arith, number-count 0 (shape (t .t)), leaves-64 p (t .t) r))
+
+-- THE ANSWER IS RIGHT, with the arrays that were made for an accepted pattern, and the empty ones for any other.
+module _ {p : List ℕ} (short : length p ≤ 255) (x : Pattern) where
+  refuse : (r : Answer) (n q : ℕ) → r ≡ Answer.Refused n q → Fault p n q → ((k j : ℕ) → r ≡ Answer.Refused k j → x ≡ blank) → ReadRight p (record { answer = r; pattern = x })
+  refuse r n q e f h = let z = h n q e in rw e (record { answer = Due.refused n q; right = f; means = refl; empty = z })
+
+  accept : {b : List ℕ} {m e c : ℕ} (r : Answer) → r ≡ Accepted → (t : Alternated p 0 0 e c (replicate 2303 0) 0 b m) → length p ≤ e → c ≤ 64 → (r ≡ Accepted → Finished p (take m b) x) → ReadRight p (record { answer = r; pattern = x })
+  accept r q t l h f =
+      let w = found-written short t l h refl refl x (f q) in
+      rw q (record { answer = Due.accepted (t .t); right = found-tree short t l h; means = ap accepted w; empty = tt })
+
+  pub read-right : {b : List ℕ} {m : ℕ} {part : Part} (r : Answer) → AlternationRead p 0 0 (replicate 2303 0) 0 b m part → r ≡ answerBy (length p) part → (r ≡ Accepted → Finished p (take m b) x) → ((n q : ℕ) → r ≡ Answer.Refused n q → x ≡ blank)
+      → ReadRight p (record { answer = r; pattern = x })
+  read-right r (found-fault {k = k} {q = q} f) e g h = refuse r k q e f h
+  read-right r (found-part {e = end} {c = c} t) e g h = go (ltb end (length p)) (ltb→lt end (length p)) (λ n. nltb→le end (length p) n) e
+    where
+      weigh : (d : Bool) → (T d → 64 < c) → (T (not d) → c ≤ 64) → length p ≤ end → r ≡ cond d (Answer.Refused 8 end) Accepted → ReadRight p (record { answer = r; pattern = x })
+      weigh true a b l e = refuse r 8 end e (found-heavy short t l (a tt)) h
+      weigh false a b l e = accept r e t l (b tt) g
+
+      go : (d : Bool) → (T d → end < length p) → (T (not d) → length p ≤ end) → r ≡ cond d (Answer.Refused 2 end) (cond (ltb 64 c) (Answer.Refused 8 end) Accepted) → ReadRight p (record { answer = r; pattern = x })
+      go true a b e = refuse r 2 end e (found-close short t (a tt)) h
+      go false a b e = weigh (ltb 64 c) (ltb→lt 64 c) (λ n. nltb→le 64 c n) (b tt) e
+
+-- The answer by what was found.
+pub answer-refused : {k q : ℕ} (n : ℕ) (part : Part) → part ≡ Refused k q → Answer.Refused k q ≡ answerBy n part
+answer-refused n part e = rw e refl
+
+pub answer-close : {e c : ℕ} (n : ℕ) (part : Part) → part ≡ Read e c → e < n → Answer.Refused 2 e ≡ answerBy n part
+answer-close {e} {c} n part q h = rw (q, T-true (ltb e n) (lt→ltb e n h)) refl
+
+pub answer-heavy : {e c : ℕ} (n : ℕ) (part : Part) → part ≡ Read e c → n ≤ e → 64 < c → Answer.Refused 8 e ≡ answerBy n part
+answer-heavy {e} {c} n part q h w = rw (q, not-true (ltb e n) (λ t. omega (arith, ltb→lt e n t)), T-true (ltb 64 c) (lt→ltb 64 c w)) refl
+
+pub answer-accepted : {e c : ℕ} (n : ℕ) (part : Part) → part ≡ Read e c → n ≤ e → c ≤ 64 → Accepted ≡ answerBy n part
+answer-accepted {e} {c} n part q h w = rw (q, not-true (ltb e n) (λ t. omega (arith, ltb→lt e n t)), not-true (ltb 64 c) (λ t. omega (arith, ltb→lt 64 c t))) refl

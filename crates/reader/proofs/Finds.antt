@@ -1,0 +1,266 @@
+-- What the cycle's functions find, from what their callees find.
+-- Assumes nothing.
+use mathlib.Core.Path.{_≡_, refl, sym, ap, _∙_, subst}
+use mathlib.Core.Logic.{_≢_}
+use Prim.Native.Nat.{ℕ, suc, _+_, _-_, _≤_, _<_, max, min}
+use mathlib.Core.Bool.{true, false}
+use mathlib.Core.List.{List, [], _∷_, _++_, map, map-append, append-assoc, append-nil}
+use native.Mathlib.Omega.{arith}
+use lib.ListN.{length, getD, drop}
+use Rattle.theory.specs.Pattern.{Re}
+use Rattle.grammar.specs.Grammar.{plain, escaped, Repeat, once, many, more, maybe, exactly, atLeast, between, Digits, digitsValue, last, or, Sequence, nothing, part, Atom, byte, dot, class, group, repeatText, atom, WfAtom, WfRepeat}
+use Rattle.grammar.specs.Limits.{depthAtom, repeated, weight, weights, weightAtom, heaviest, heaviestWithin, heaviestAtom}
+use Rattle.grammar.specs.WriteOut.{chain, optional, shape, parts, shapeAtom, repeatOf}
+use Rattle.grammar.specs.Before.{isOnce}
+use Rattle.grammar.specs.Refusals.{Fault}
+use Rattle.grammar.specs.Code.Reader.{found, readClass, readCount}
+use Rattle.grammar.specs.Code.Tokens.{Token, nil, both, tokens}
+use Rattle.grammar.specs.Code.Tokens
+use Rattle.grammar.specs.Code.Codes.{tokenOf, exactlyCodes, atLeastCodes, betweenCodes}
+use Rattle.grammar.proofs.Pieces.{Sound, ClassIs, class-sound, CountIs, count-sound}
+use Rattle.grammar.proofs.Codes.{plain-code, escaped-code, dot-code, class-code, star-codes, exactly-codes, atLeast-codes, between-codes}
+use Rattle.tokens.specs.Held.{Added, Rewritten}
+use Rattle.scanner.specs.Scanned.{Onward}
+use Rattle.reader.specs.declared.Part.{Part}
+use Rattle.reader.specs.declared.Part.the-variants.{Read, Refused}
+use Rattle.reader.specs.Steps.{isSpecial, NoRepeat, Begun, Weighs, light, loadOf, tokensOf, Wrote, Rewrote, PartRead, found-part, found-fault, Alternated, Sequenced, Atomic, Repeated}
+use Rattle.reader.proofs.Weights.{weighs-plus, weighs-again, weighs-times, one-load, or-light, or-heavy, repeated-pos, atom-pos, atom-heaviest, load-none, load-some}
+use Rattle.reader.proofs.Begins.{at-drop, byte-drop, drop-all, next-here, depth-max, ordinary-of, no-repeat}
+
+-- Writing.
+module _ {p : List ℕ} where
+  pub wrote-none : (a : List ℕ) (n : ℕ) → Wrote p a n a n []
+  wrote-none a n = record { codes = []; are = refl; holds = λ l h. rw append-nil h }
+
+  pub wrote-added : {a b : List ℕ} {n m : ℕ} (c : ℕ) (ts : List Token) → map (tokenOf p) (c ∷ []) ≡ ts → Added a n (c ∷ []) b m → Wrote p a n b m ts
+  wrote-added c ts e h = record { codes = c ∷ []; are = e; holds = h .holds }
+
+  pub wrote-then : {a b c : List ℕ} {n m k : ℕ} {ts us : List Token} → Wrote p a n b m ts → Wrote p b m c k us → Wrote p a n c k (ts ++ us)
+  wrote-then x y =
+      record {
+        codes = x .codes ++ y .codes;
+        are = map-append (tokenOf p) (x .codes) (y .codes) ∙ rw (x .are, y .are);
+        holds = λ l h. rw (← append-assoc l (x .codes) (y .codes)) (y .holds (l ++ x .codes) (x .holds l h));
+      }
+
+  -- A part that was written and then became another.
+  pub wrote-rewrote : {a b c : List ℕ} {n m k : ℕ} {y z : Re} → Wrote p a n b m (tokens y) → Rewrote p b m n c k y z → Wrote p a n c k (tokens z)
+  wrote-rewrote x r = record { codes = r .codes (x .codes); are = r .are (x .codes) (x .are); holds = λ l h. r .holds l (x .codes) (x .holds l h) (h .used) }
+
+-- A refusal is passed on, and an answer that is known.
+module _ {p : List ℕ} {F : ℕ → ℕ → Type 0} where
+  refusal : {k q : ℕ} → PartRead p F (Refused k q) → Fault p k q
+  refusal (found-fault h) = h
+
+  finding : {e c : ℕ} → PartRead p F (Read e c) → F e c
+  finding (found-part h) = h
+
+  pub passed-on : {G : ℕ → ℕ → Type 0} {k q : ℕ} (r : Part) → r ≡ Refused k q → PartRead p F r → PartRead p G r
+  passed-on r x h = rw x (found-fault (refusal (rw x at h)))
+
+  pub known : {e c : ℕ} {r : Part} → r ≡ Read e c → PartRead p F r → F e c
+  known x h = finding (rw x at h)
+
+-- REPEATS.
+rewrote : {p : List ℕ} {n from m : ℕ} {a b : List ℕ} (x : Repeat) (f : List ℕ → List ℕ) → Rewritten a n from f b m → ((k : List ℕ) (y : Re) → map (tokenOf p) k ≡ tokens y → map (tokenOf p) (f k) ≡ tokens (repeatOf x y))
+    → (y : Re) → Rewrote p a n from b m y (repeatOf x y)
+rewrote x f r g y = record { codes = f; are = λ k. g k y; holds = r .holds }
+
+module _ {p : List ℕ} {at v n from m : ℕ} {a b : List ℕ} where
+  -- A repeat x that ends at e.
+  found-repeat : (x : Repeat) (e c : ℕ) → WfRepeat x → isOnce x ≡ false → repeatText x (drop e p) ≡ drop at p → at ≤ e → e ≤ length p → ((y : Re) → Rewrote p a n from b m y (repeatOf x y))
+      → ((w h : ℕ) → w ≤ h → Weighs v w h → Weighs c (repeated x w) (max h (repeated x w))) → Repeated p at v e c a n from b m
+  found-repeat x e c w o t f i r l =
+      record { x = x; formed = w; text = t; forward = f; inside = i; settled = λ y. let z : _≡_ {A = ℕ} 0 1 = cc in absurd (omega arith); wrote = r; load = l }
+
+  -- A sign.
+  sign-here : (x : Repeat) (k c : ℕ) → at < length p → getD p at 0 ≡ k → WfRepeat x → isOnce x ≡ false → ((s : List ℕ) → repeatText x s ≡ k ∷ s) → ((y : Re) → Rewrote p a n from b m y (repeatOf x y))
+      → ((w h : ℕ) → w ≤ h → Weighs v w h → Weighs c (repeated x w) (max h (repeated x w))) → Repeated p at v (at + 1) c a n from b m
+  sign-here x k c h e w o t r l = found-repeat x (at + 1) c w o (t (drop (at + 1) p) ∙ sym (byte-drop p at k h e)) (omega arith) (omega arith) r l
+
+  pub many-here : at < length p → getD p at 0 ≡ 42 → Rewritten a n from (λ k. k ++ (3 ∷ [])) b m → Repeated p at v (at + 1) v a n from b m
+  many-here h e r = sign-here many 42 v h e tt refl (λ s. refl) (rewrote many (λ k. k ++ (3 ∷ [])) r (star-codes p)) (λ w h k x. weighs-again k x)
+
+  pub more-here : (c : ℕ) → c ≡ loadOf 2 v → at < length p → getD p at 0 ≡ 43 → Rewritten a n from (atLeastCodes 1) b m → Repeated p at v (at + 1) c a n from b m
+  unfolding chain
+  more-here c d h e r = sign-here more 43 c h e tt refl (λ s. refl) (rewrote more (atLeastCodes 1) r (λ k y x. atLeast-codes p k y x 1)) (λ w h k x. weighs-times 2 c d k x)
+
+  pub maybe-here : at < length p → getD p at 0 ≡ 63 → Rewritten a n from (betweenCodes 0 1) b m → Repeated p at v (at + 1) v a n from b m
+  unfolding chain optional
+  maybe-here h e r = sign-here maybe 63 v h e tt refl (λ s. refl) (rewrote maybe (betweenCodes 0 1) r (λ k y x. between-codes p k y x 0 1)) (λ w h k x. weighs-again k x)
+
+  -- A count that was found.
+  module _ (h : at < length p) (brace : getD p at 0 ≡ 123) {e : ℕ} (next : Onward p (at + 1) e) where
+    counted : (x : Repeat) (c : ℕ) → readCount (drop (at + 1) p) ≡ found x (drop e p) → ((y : Re) → Rewrote p a n from b m y (repeatOf x y))
+        → ((w h : ℕ) → w ≤ h → Weighs v w h → Weighs c (repeated x w) (max h (repeated x w))) → Repeated p at v e c a n from b m
+    counted x c f r l =
+        let i : CountIs (123 ∷ drop (at + 1) p) x (drop e p) = subst (Sound (CountIs (123 ∷ drop (at + 1) p))) f (count-sound (drop (at + 1) p)) in
+        found-repeat x e c (i .0) (i .1) (i .2 ∙ sym (byte-drop p at 123 h brace)) (omega (arith, next .forward)) (next .inside) r l
+
+    pub exactly-here : (d : Digits) (t c : ℕ) → readCount (drop (at + 1) p) ≡ found (exactly d) (drop e p) → digitsValue d ≡ t → c ≡ loadOf t v → Rewritten a n from (exactlyCodes t) b m → Repeated p at v e c a n from b m
+    exactly-here d t c f g k r =
+        counted (exactly d) c f (rewrote (exactly d) (exactlyCodes t) r (λ k y x. rw g (exactly-codes p k y x t))) (λ w h i x. rw g (weighs-times t c k i x))
+
+    pub atLeast-here : (d : Digits) (t c : ℕ) → readCount (drop (at + 1) p) ≡ found (atLeast d) (drop e p) → digitsValue d ≡ t → c ≡ loadOf (t + 1) v → Rewritten a n from (atLeastCodes t) b m → Repeated p at v e c a n from b m
+    atLeast-here d t c f g k r =
+        counted (atLeast d) c f (rewrote (atLeast d) (atLeastCodes t) r (λ k y x. rw g (atLeast-codes p k y x t)))
+        (λ w h i x. rw g (let s : t + 1 ≡ suc t = omega arith in weighs-times (suc t) c (k ∙ ap (λ u. loadOf u v) s) i x))
+
+    pub between-here : (d d′ : Digits) (t u c : ℕ) → readCount (drop (at + 1) p) ≡ found (between d d′) (drop e p) → digitsValue d ≡ t → digitsValue d′ ≡ u → c ≡ loadOf u v → Rewritten a n from (betweenCodes t (u - t)) b m
+        → Repeated p at v e c a n from b m
+    between-here d d′ t u c f g g′ k r =
+        counted (between d d′) c f (rewrote (between d d′) (betweenCodes t (u - t)) r (λ k y x. rw (g, g′) (between-codes p k y x t (u - t)))) (λ w h i x. rw g′ (weighs-times u c k i x))
+
+-- No repeat.
+module _ {p : List ℕ} {at v n from : ℕ} {a : List ℕ} where
+  none-here : at ≤ length p → NoRepeat (drop at p) → Repeated p at v at v a n from a n
+  none-here h k = record { x = once; formed = tt; text = refl; forward = omega arith; inside = h; settled = λ y. k; wrote = λ y. record { codes = λ k. k; are = λ k e. e; holds = λ l k h u. h }; load = λ w h k x. weighs-again k x }
+
+  pub end-here : at ≡ length p → Repeated p at v at v a n from a n
+  end-here e = none-here (omega arith) (rw (drop-all p at e) tt)
+
+  pub other-here : at < length p → getD p at 0 ≢ 42 → getD p at 0 ≢ 43 → getD p at 0 ≢ 63 → getD p at 0 ≢ 123 → Repeated p at v at v a n from a n
+  other-here h x y z w = none-here (omega arith) (rw (at-drop p at h) (no-repeat (getD p at 0) x y z w))
+
+-- SEQUENCES. A part and the parts after it.
+joined : {p : List ℕ} {u n₂ n₃ m : ℕ} {f g₂ g₃ g : List ℕ} {n : ℕ} (q : Sequence) (z : Re) → Wrote p f n g₂ n₂ (tokens z) → Wrote p g₂ n₂ g₃ n₃ (tokensOf (parts q)) → Weighs u (weights q) (heaviestWithin q)
+    → ((u ≡ 0 → ⊥) → Added g₃ n₃ (1 ∷ []) g m) → (u ≡ 0 → (g ≡ g₃) × (m ≡ n₃)) → Wrote p f n g m (tokensOf (z ∷ parts q))
+unfolding weight heaviest shape tokensOf chain tokens
+joined nothing z v w l go stop =
+    let e = stop (load-none l (omega arith)) in
+    rw (e .0, e .1) (rw append-nil at (wrote-then v w))
+joined (part a r q) z v w l go stop = wrote-then v (wrote-then w (wrote-added 1 (both ∷ []) refl (go (load-some l (omega (arith, repeated-pos r (weightAtom a) (atom-pos a)))))))
+
+-- A sequence as a part: an empty one is a part of its own.
+whole : {p : List ℕ} {u n n₁ m : ℕ} {f g₁ g : List ℕ} (q : Sequence) → Wrote p f n g₁ n₁ (tokensOf (parts q)) → Weighs u (weights q) (heaviestWithin q)
+    → (u ≡ 0 → Added g₁ n₁ (0 ∷ []) g m) → ((u ≡ 0 → ⊥) → (g ≡ g₁) × (m ≡ n₁)) → Wrote p f n g m (tokens (chain (parts q)))
+unfolding weight heaviest shape tokensOf chain tokens
+whole nothing w l go stop = wrote-then w (wrote-added 0 (nil ∷ []) refl (go (load-none l (omega arith))))
+whole (part a r q) w l go stop =
+    let e = stop (load-some l (omega (arith, repeated-pos r (weightAtom a) (atom-pos a)))) in
+    rw (e .0, e .1) w
+
+module _ {p : List ℕ} {at d : ℕ} where
+  pub sequence-stop : {f : List ℕ} {n : ℕ} → Begun p at d → (at < length p → getD p at 0 ≢ 124 → getD p at 0 ≡ 41) → Sequenced p at d at 0 f n f n
+  unfolding weight heaviest shape tokensOf
+  sequence-stop {f} {n} b h =
+      record {
+        q = nothing;
+        formed = tt;
+        shallow = omega (arith, depth-max b);
+        text = refl;
+        forward = omega arith;
+        inside = b .begin .inside;
+        end = h;
+        wrote = wrote-none f n;
+        load = light refl (omega arith) (omega arith);
+      }
+
+  pub sequence-part : {e c k v l u n n₁ n₂ n₃ m : ℕ} {f g₁ g₂ g₃ g : List ℕ} (r : ℕ) → Atomic p at d e c f n g₁ n₁ → Repeated p e c k v g₁ n₁ n g₂ n₂ → Sequenced p k d l u g₂ n₂ g₃ n₃
+      → ((u ≡ 0 → ⊥) → Added g₃ n₃ (1 ∷ []) g m) → (u ≡ 0 → (g ≡ g₃) × (m ≡ n₃)) → r ≡ min 65 (v + u) → Sequenced p at d l r f n g m
+  unfolding weight heaviest shape
+  sequence-part {n = n} {n₂ = n₂} {f = f} {g₂ = g₂} r a x q go stop e =
+      record {
+        q = part (a .x) (x .x) (q .q);
+        formed = (a .formed, x .formed, q .formed);
+        shallow = omega (arith, a .shallow, q .shallow);
+        text = rw (q .text, x .text) (a .text);
+        forward = omega (arith, a .forward, x .forward, q .forward);
+        inside = q .inside;
+        end = q .end;
+        wrote = joined (q .q) (repeatOf (x .x) (shapeAtom (a .x))) (wrote-rewrote (a .wrote) (x .wrote (shapeAtom (a .x)))) (q .wrote) (q .load) go stop;
+        load =
+            weighs-plus r (weights (part (a .x) (x .x) (q .q))) (heaviestWithin (part (a .x) (x .x) (q .q))) e refl
+            (x .load (weightAtom (a .x)) (heaviestAtom (a .x)) (atom-heaviest (a .x)) (a .load)) (q .load) (λ f g h. omega arith) (λ f. omega arith);
+      }
+
+  -- ALTERNATIONS.
+  pub alternation-last : {e c n n₁ m : ℕ} {f g₁ g : List ℕ} (r : ℕ) → Sequenced p at d e c f n g₁ n₁ → (c ≡ 0 → Added g₁ n₁ (0 ∷ []) g m) → ((c ≡ 0 → ⊥) → (g ≡ g₁) × (m ≡ n₁)) → r ≡ max 1 c
+      → (e < length p → getD p e 0 ≢ 124) → Alternated p at d e r f n g m
+  unfolding weight heaviest shape
+  alternation-last r q go stop e h =
+      record {
+        t = last (q .q);
+        formed = q .formed;
+        shallow = q .shallow;
+        text = q .text;
+        forward = q .forward;
+        inside = q .inside;
+        end = λ l. q .end l (h l);
+        wrote = whole (q .q) (q .wrote) (q .load) go stop;
+        load = one-load r e (q .load);
+      }
+
+  pub alternation-or : {e c l v n n₁ n₂ n₃ m : ℕ} {f g₁ g₂ g₃ g : List ℕ} (w r : ℕ) → Sequenced p at d e c f n g₁ n₁ → (c ≡ 0 → Added g₁ n₁ (0 ∷ []) g₂ n₂) → ((c ≡ 0 → ⊥) → (g₂ ≡ g₁) × (n₂ ≡ n₁)) → w ≡ max 1 c
+      → e < length p → getD p e 0 ≡ 124 → Alternated p (e + 1) d l v g₂ n₂ g₃ n₃ → Added g₃ n₃ (2 ∷ []) g m → r ≡ min 65 (w + v) → Alternated p at d l r f n g m
+  unfolding weight heaviest shape tokens
+  alternation-or {e} w r q go stop x h y t o z =
+      record {
+        t = or (q .q) (t .t);
+        formed = (q .formed, t .formed);
+        shallow = omega (arith, q .shallow, t .shallow);
+        text = let g = byte-drop p e 124 h y in rw (t .text, ← g) (q .text);
+        forward = omega (arith, q .forward, t .forward);
+        inside = t .inside;
+        end = t .end;
+        wrote = wrote-then (whole (q .q) (q .wrote) (q .load) go stop) (wrote-then (t .wrote) (wrote-added 2 (Tokens.or ∷ []) refl o));
+        load =
+            weighs-plus r (weight (or (q .q) (t .t))) (heaviest (or (q .q) (t .t))) z refl (one-load w x (q .load)) (t .load)
+            (or-light (max 1 (weights (q .q))) (weight (t .t)) (heaviestWithin (q .q)) (heaviest (t .t))) (or-heavy (max 1 (weights (q .q))) (weight (t .t)) (heaviestWithin (q .q)) (heaviest (t .t)));
+      }
+
+-- ATOMS.
+module _ {p : List ℕ} {at d : ℕ} (b : Begun p at d) (i : at < length p) {n m : ℕ} {f g : List ℕ} where
+  -- A leaf, whose code is that of its place.
+  module _ (u : Added f n ((4 + at) ∷ []) g m) where
+    leaf-here : (x : Atom) (e : ℕ) → map (tokenOf p) (suc (suc (suc (suc at))) ∷ []) ≡ tokens (shapeAtom x) → WfAtom x → depthAtom x ≡ 0 → weightAtom x ≡ 1 → heaviestAtom x ≡ 1 → atom x (drop e p) ≡ drop at p → at < e → e ≤ length p
+        → Atomic p at d e 1 f n g m
+    leaf-here x e v w k y z t l r =
+        record {
+          x = x;
+          formed = w;
+          shallow = omega (arith, depth-max b);
+          text = t;
+          forward = l;
+          inside = r;
+          wrote = wrote-added (suc (suc (suc (suc at)))) (tokens (shapeAtom x)) v (let e : 4 + at ≡ suc (suc (suc (suc at))) = omega arith in subst (λ c. Added f n (c ∷ []) g m) e u);
+          load = light (omega arith) (omega arith) (omega arith);
+        }
+
+    pub plain-here : false ≡ isSpecial (getD p at 0) → Atomic p at d (at + 1) 1 f n g m
+    unfolding weight heaviest
+    plain-here e =
+        leaf-here (byte (plain (getD p at 0))) (at + 1) (plain-code p at (drop (at + 1) p) (getD p at 0) (at-drop p at i) (ordinary-of (getD p at 0) e)) (ordinary-of (getD p at 0) e) refl refl refl (sym (at-drop p at i)) (omega arith) (omega arith)
+
+    pub dot-here : getD p at 0 ≡ 46 → Atomic p at d (at + 1) 1 f n g m
+    unfolding weight heaviest
+    dot-here e = leaf-here dot (at + 1) (dot-code p at (drop (at + 1) p) (byte-drop p at 46 i e)) tt refl refl refl (sym (byte-drop p at 46 i e)) (omega arith) (omega arith)
+
+    pub escaped-here : getD p at 0 ≡ 92 → at + 1 ≢ length p → true ≡ isSpecial (getD p (at + 1) 0) → Atomic p at d (at + 2) 1 f n g m
+    unfolding weight heaviest
+    escaped-here e k s =
+        let h : at + 1 < length p = omega arith in
+        let t : drop at p ≡ 92 ∷ getD p (at + 1) 0 ∷ drop (at + 2) p = byte-drop p at 92 i e ∙ ap (λ l. 92 ∷ l) (next-here b i h) in
+        leaf-here (byte (escaped (getD p (at + 1) 0))) (at + 2) (escaped-code p at (drop (at + 2) p) (getD p (at + 1) 0) t) (sym s) refl refl refl (sym t) (omega arith) (omega arith)
+
+    pub class-here : {e : ℕ} (x : Atom) → getD p at 0 ≡ 91 → readClass (drop (at + 1) p) ≡ found x (drop e p) → Onward p (at + 1) e → Atomic p at d e 1 f n g m
+    unfolding weight heaviest
+    class-here {e} a h r o =
+        let (c, x, l, s, w, v, t) = subst (Sound (ClassIs (91 ∷ drop (at + 1) p))) r (class-sound (drop (at + 1) p)) in
+        leaf-here (class c x l) e (class-code p at (drop (at + 1) p) c x l (drop e p) (byte-drop p at 91 i h) (r ∙ ap (λ y. found y (drop e p)) s)) (w, v) refl refl refl (t ∙ sym (byte-drop p at 91 i h)) (omega (arith, o .forward)) (o .inside)
+
+  pub group-here : {e c : ℕ} → getD p at 0 ≡ 40 → Alternated p (at + 1) (d + 1) e c f n g m → e ≢ length p → Atomic p at d (e + 1) c f n g m
+  unfolding weight heaviest shape
+  group-here {e} x t k =
+      let h : e < length p = omega (arith, t .inside) in
+      let g = byte-drop p e 41 h (t .end h) in
+      record {
+        x = group (t .t);
+        formed = t .formed;
+        shallow = omega (arith, t .shallow);
+        text = rw (← g, t .text) (sym (byte-drop p at 40 i x));
+        forward = omega (arith, t .forward);
+        inside = omega arith;
+        wrote = t .wrote;
+        load = t .load;
+      }

@@ -1,0 +1,109 @@
+-- `counted` finds the count after an atom, or its fault.
+-- Assumes nothing.
+use mathlib.Core.Path.{_≡_, refl, sym, ap, _∙_, subst}
+use native.Mathlib.Omega.{arith}
+use Rattle.reader.specs.Steps.{found-part, found-fault}
+use Rattle.reader.proofs.Begins.{fault-count}
+use Rattle.reader.proofs.Finds.{exactly-here, atLeast-here, between-here}
+use Rattle.reader.proofs.Scans.{count-none, count-exactly, count-atLeast, count-between, exactly-63, atLeast-63, between-63}
+use borrow.Author.Needs.{needs}
+use Rattle.reader.proofs.counted.Statement.{statement}
+use Rattle.reader.proofs.counted.Tie as tie
+use Rattle.reader.proofs.counted.Reads as reads
+use Rattle.reader.proofs.counted.Lts as lts
+use Rattle.reader.proofs.found.Reads as found-reads
+use Rattle.reader.proofs.load.Reads as load-reads
+use Rattle.scanner.proofs.read_count.Reads as read-count-reads
+use Rattle.reader.proofs.refused.Reads as refused-reads
+use Rattle.tokens.proofs.at_least.Reads as at-least-reads
+use Rattle.tokens.proofs.between.Reads as between-reads
+use Rattle.tokens.proofs.exactly.Reads as exactly-reads
+
+add-read-count : tie.Need-add-read-count
+add-read-count c = search needs
+
+read-count-requires : tie.Need-read-count-requires
+read-count-requires c κs = search needs
+
+enum-known-count : tie.Need-enum-known-count
+enum-known-count c = search needs
+
+exactly-requires : tie.Need-exactly-requires
+exactly-requires c κs = search needs
+
+load-requires : tie.Need-load-requires
+load-requires c κs = omega (arith, exactly-63 _ _ _ (c .before .before .before .count .given .1) (c .before .before .before .before .before .read-count .ensures))
+
+found-requires : tie.Need-found-requires
+found-requires c κs = search needs
+
+enum-known-count-2 : tie.Need-enum-known-count-2
+enum-known-count-2 c = search needs
+
+at-least-requires : tie.Need-at-least-requires
+at-least-requires c κs = search needs
+
+add-load : tie.Need-add-load
+add-load c = omega (arith, atLeast-63 _ _ _ (c .before .before .before .count2 .given .1) (c .before .before .before .before .before .read-count .ensures))
+
+load-requires-2 : tie.Need-load-requires-2
+load-requires-2 c κs = omega (arith, atLeast-63 _ _ _ (c .before .before .before .count2 .given .1) (c .before .before .before .before .before .read-count .ensures))
+
+found-requires-2 : tie.Need-found-requires-2
+found-requires-2 c κs = search needs
+
+enum-known-count-3 : tie.Need-enum-known-count-3
+enum-known-count-3 c = search needs
+
+between-requires : tie.Need-between-requires
+between-requires c κs = search needs
+
+load-requires-3 : tie.Need-load-requires-3
+load-requires-3 c κs = omega (arith, between-63 _ _ _ (c .before .before .before .count3 .given .1) (c .before .before .before .before .before .read-count .ensures))
+
+found-requires-3 : tie.Need-found-requires-3
+found-requires-3 c κs = search needs
+
+enum-told : tie.Need-enum-told
+enum-told c = search needs
+
+refused-requires : tie.Need-refused-requires
+refused-requires c κs = search needs
+
+returns : tie.Need-returns
+returns c = rw (c .found .ensures) (found-part (let (d, f, g, o) = count-exactly _ _ _ (c .before .before .before .before .before .count .given .1) (c .before .before .before .before .before .before .before .read-count .ensures) in exactly-here (c .before .before .before .before .before .before .before .before .before .pre .1) (c .before .before .before .before .before .before .before .before .before .pre .2) o d _ _ f g (c .before .load .ensures) (c .before .before .exactly .ensures)))
+
+returns-2 : tie.Need-returns-2
+returns-2 c = rw (c .found2 .ensures) (found-part (let (d, f, g, o) = count-atLeast _ _ _ (c .before .before .before .before .before .count2 .given .1) (c .before .before .before .before .before .before .before .read-count .ensures) in atLeast-here (c .before .before .before .before .before .before .before .before .before .pre .1) (c .before .before .before .before .before .before .before .before .before .pre .2) o d _ _ f g (c .before .load2 .ensures) (c .before .before .at-least .ensures)))
+
+returns-3 : tie.Need-returns-3
+returns-3 c = rw (c .found3 .ensures) (found-part (let (d, d′, f, g, g′, o) = count-between _ _ _ (c .before .before .before .before .before .count3 .given .1) (c .before .before .before .before .before .before .before .read-count .ensures) in between-here (c .before .before .before .before .before .before .before .before .before .pre .1) (c .before .before .before .before .before .before .before .before .before .pre .2) o d d′ _ _ _ f g g′ (c .before .load3 .ensures) (c .before .before .between .ensures)))
+
+returns-4 : tie.Need-returns-4
+returns-4 c = rw (c .refused .ensures) (found-fault (fault-count (c .before .before .before .before .before .pre .0) (c .before .before .before .before .before .pre .1) (c .before .before .before .before .before .pre .2) (count-none _ _ _ (c .before .enum-told .given .1) (c .before .before .before .read-count .ensures))))
+
+pub counted-spec : {M : Type 1} → statement M
+counted-spec =
+    tie.close
+    (tie.spec
+    add-read-count
+    read-count-requires
+    enum-known-count
+    exactly-requires
+    load-requires
+    found-requires
+    enum-known-count-2
+    at-least-requires
+    add-load
+    load-requires-2
+    found-requires-2
+    enum-known-count-3
+    between-requires
+    load-requires-3
+    found-requires-3
+    enum-told
+    refused-requires
+    returns
+    returns-2
+    returns-3
+    returns-4)

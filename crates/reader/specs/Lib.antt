@@ -1,0 +1,3 @@
+-- What the reader hands over, and what its functions find on the way.
+pub mod Reading
+pub mod Steps

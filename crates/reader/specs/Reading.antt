@@ -1,0 +1,41 @@
+-- What the reader hands over for a pattern. Its answer's cases with paper 01's number and values are given by `meaning`.
+-- Assumes nothing.
+use mathlib.Core.Path.{_≡_}
+use Prim.Native.Nat.{ℕ}
+use mathlib.Core.List.{List}
+use Rattle.theory.specs.Pattern.{Re}
+use Rattle.grammar.specs.WriteOut.{writeOut}
+use Rattle.grammar.specs.Refusals.{Right}
+use Rattle.grammar.specs.Refusals as Due
+use Rattle.arrays.specs.declared.Pattern.{Pattern}
+use Rattle.arrays.specs.Decoded.{decode, blank}
+use Rattle.reader.specs.declared.Answer.{Answer}
+use Rattle.reader.specs.declared.Answer.the-variants.{Accepted, Refused}
+use Rattle.reader.specs.declared.Reading.{Reading}
+
+-- The written-out pattern, or the refusal's number and place.
+pub data Written : Type 0 where
+  accepted : Re → Written
+  refused : ℕ → ℕ → Written
+
+-- What an answer is, by the arrays that stand beside it.
+abbrev pub meaning : Answer → Pattern → Written
+meaning Accepted x = accepted (decode x)
+meaning (Refused n q) x = refused n q
+
+-- What is due by the grammar.
+abbrev pub due : Due.Answer → Written
+due (Due.accepted t) = accepted (writeOut t)
+due (Due.refused n q) = refused n q
+
+-- A refused pattern has the empty pattern's arrays.
+abbrev pub Unread : Answer → Pattern → Type 0
+Unread Accepted x = Unit {0}
+Unread (Refused n q) x = x ≡ blank
+
+-- The reader's answer is the one that is right, and the arrays are the written-out pattern's, leaf sets included.
+pub record ReadRight (p : List ℕ) (r : Reading) : Type 0 where
+  pub answer : Due.Answer
+  pub right : Right p answer
+  pub means : meaning (r .answer) (r .pattern) ≡ due answer
+  pub empty : Unread (r .answer) (r .pattern)

@@ -1,0 +1,167 @@
+-- What the functions of the cycle find at a place: a part of a tree, its tokens and its weight, or the pattern's fault.
+-- Assumes nothing.
+use mathlib.Core.Path.{_≡_}
+use mathlib.Core.Logic.{_≢_}
+use Prim.Native.Nat.{ℕ, _+_, _≤_, _<_, max, min}
+use mathlib.Core.Bool.{Bool, true, false, cond}
+use mathlib.Core.List.{List, [], _∷_, _++_, map}
+use lib.ListN.{length, getD, drop}
+use lib.Dec.{eqb, ltb}
+use Rattle.theory.specs.Pattern.{Re}
+use Rattle.grammar.specs.Grammar.{Repeat, Alternation, Sequence, Atom, Kind, ordinary, backslash, bar, opener, closer, bracket, brace, period, stray, sign, kind, special, repeatText, alternation, sequence, atom, WfAlternation, WfSequence, WfAtom, WfRepeat}
+use Rattle.grammar.specs.Limits.{depth, depthSequence, depthAtom, times, repeated, weight, weights, weightAtom, heaviest, heaviestWithin, heaviestAtom}
+use Rattle.grammar.specs.WriteOut.{chain, shape, parts, shapeAtom, repeatOf}
+use Rattle.grammar.specs.Before.{Before, text, opens, isOnce, ready, WfBefore}
+use Rattle.grammar.specs.Refusals.{Fault}
+use Rattle.grammar.specs.Code.Tokens.{Token, tokens}
+use Rattle.grammar.specs.Code.Codes.{tokenOf}
+use Rattle.tokens.specs.Held.{Holds, Added}
+use Rattle.reader.specs.declared.Answer.{Answer}
+use Rattle.reader.specs.declared.Answer.the-variants.{Accepted}
+use Rattle.reader.specs.declared.Answer.the-variants as Answer
+use Rattle.reader.specs.declared.Part.{Part}
+use Rattle.reader.specs.declared.Part.the-variants.{Read, Refused}
+
+abbrev pub isSpecial : ℕ → Bool
+isSpecial b = special (kind b)
+
+-- A repeat sign or `{`.
+abbrev pub isRepeat : Kind → Bool
+isRepeat ordinary = false
+isRepeat backslash = false
+isRepeat bar = false
+isRepeat opener = false
+isRepeat closer = false
+isRepeat bracket = false
+isRepeat brace = true
+isRepeat period = false
+isRepeat stray = false
+isRepeat (sign r) = true
+
+abbrev pub NoRepeat : List ℕ → Type 0
+NoRepeat [] = Unit {0}
+NoRepeat (b ∷ s) = isRepeat (kind b) ≡ false
+
+-- The pattern up to the place is a beginning.
+pub record Beginning (p : List ℕ) (at : ℕ) : Type 0 where
+  pub short : length p ≤ 255
+  pub inside : at ≤ length p
+  pub o : Before
+  pub formed : WfBefore o
+  pub split : text o (drop at p) ≡ p
+
+-- .. with d brackets open, and no repeat can follow there.
+pub record Begun (p : List ℕ) (at d : ℕ) : Type 0 where
+  pub begin : Beginning p at
+  pub deep : opens (begin .o) ≡ d
+  pub settled : ready (begin .o) ≡ true → NoRepeat (drop at p)
+
+-- .. right after an atom.
+pub record Ready (p : List ℕ) (at : ℕ) : Type 0 where
+  pub begin : Beginning p at
+  pub ready-here : ready (begin .o) ≡ true
+
+-- An atom, or a fault, is at the place.
+pub record AtomAt (p : List ℕ) (at : ℕ) : Type 0 where
+  pub before : at < length p
+  pub noBar : getD p at 0 ≢ 124
+  pub noClose : getD p at 0 ≢ 41
+
+-- A part weighs w and its heaviest part h; c is w, or 65 if one of them is above 64.
+pub data Weighs (c w h : ℕ) : Type 0 where
+  light : c ≡ w → w ≤ 64 → h ≤ 64 → Weighs c w h
+  heavy : c ≡ 65 → 64 < max w h → Weighs c w h
+
+-- The weight of n copies of a part that weighs v, 65 for any above 64.
+abbrev pub loadOf : ℕ → ℕ → ℕ
+loadOf n v = cond (eqb v 65) 65 (min 65 (times n v))
+
+-- The tokens of the parts of a sequence: none if it has none.
+unfoldable pub tokensOf : List Re → List Token
+tokensOf [] = []
+tokensOf (x ∷ l) = tokens (chain (x ∷ l))
+
+-- The array a with n used became b with m used: the codes of those tokens are held after what was held.
+pub record Wrote (p : List ℕ) (a : List ℕ) (n : ℕ) (b : List ℕ) (m : ℕ) (ts : List Token) : Type 0 where
+  pub codes : List ℕ
+  pub are : map (tokenOf p) codes ≡ ts
+  pub holds : (l : List ℕ) → Holds a n l → Holds b m (l ++ codes)
+
+-- A code was added if the test holds, and else nothing changed.
+pub record AddedIf (P : Type 0) (a : List ℕ) (n code : ℕ) (b : List ℕ) (m : ℕ) : Type 0 where
+  pub added : P → Added a n (code ∷ []) b m
+  pub kept : (P → ⊥) → (b ≡ a) × (m ≡ n)
+
+-- The part y, whose codes begin at the place `from`, became the part z.
+pub record Rewrote (p : List ℕ) (a : List ℕ) (n from : ℕ) (b : List ℕ) (m : ℕ) (y z : Re) : Type 0 where
+  pub codes : List ℕ → List ℕ
+  pub are : (k : List ℕ) → map (tokenOf p) k ≡ tokens y → map (tokenOf p) (codes k) ≡ tokens z
+  pub holds : (l k : List ℕ) → Holds a n (l ++ k) → from ≡ min 2303 (length l) → Holds b m (l ++ codes k)
+
+-- What is found, F, ends at e and weighs c; or the pattern has the fault.
+pub data PartRead (p : List ℕ) (F : ℕ → ℕ → Type 0) : Part → Type 0 where
+  found-part : {e c : ℕ} → F e c → PartRead p F (Read e c)
+  found-fault : {k q : ℕ} → Fault p k q → PartRead p F (Refused k q)
+
+-- An alternation from the place `at` to e, weighing c.
+pub record Alternated (p : List ℕ) (at d e c : ℕ) (a : List ℕ) (n : ℕ) (b : List ℕ) (m : ℕ) : Type 0 where
+  pub t : Alternation
+  pub formed : WfAlternation t
+  pub shallow : d + depth t ≤ 16
+  pub text : alternation t (drop e p) ≡ drop at p
+  pub forward : at ≤ e
+  pub inside : e ≤ length p
+  pub end : e < length p → getD p e 0 ≡ 41
+  pub wrote : Wrote p a n b m (tokens (shape t))
+  pub load : Weighs c (weight t) (heaviest t)
+
+abbrev pub AlternationRead : List ℕ → ℕ → ℕ → List ℕ → ℕ → List ℕ → ℕ → Part → Type 0
+AlternationRead p at d a n b m = PartRead p (λ e c. Alternated p at d e c a n b m)
+
+-- A sequence.
+pub record Sequenced (p : List ℕ) (at d e c : ℕ) (a : List ℕ) (n : ℕ) (b : List ℕ) (m : ℕ) : Type 0 where
+  pub q : Sequence
+  pub formed : WfSequence q
+  pub shallow : d + depthSequence q ≤ 16
+  pub text : sequence q (drop e p) ≡ drop at p
+  pub forward : at ≤ e
+  pub inside : e ≤ length p
+  pub end : e < length p → getD p e 0 ≢ 124 → getD p e 0 ≡ 41
+  pub wrote : Wrote p a n b m (tokensOf (parts q))
+  pub load : Weighs c (weights q) (heaviestWithin q)
+
+abbrev pub SequenceRead : List ℕ → ℕ → ℕ → List ℕ → ℕ → List ℕ → ℕ → Part → Type 0
+SequenceRead p at d a n b m = PartRead p (λ e c. Sequenced p at d e c a n b m)
+
+-- An atom.
+pub record Atomic (p : List ℕ) (at d e c : ℕ) (a : List ℕ) (n : ℕ) (b : List ℕ) (m : ℕ) : Type 0 where
+  pub x : Atom
+  pub formed : WfAtom x
+  pub shallow : d + depthAtom x ≤ 16
+  pub text : atom x (drop e p) ≡ drop at p
+  pub forward : at < e
+  pub inside : e ≤ length p
+  pub wrote : Wrote p a n b m (tokens (shapeAtom x))
+  pub load : Weighs c (weightAtom x) (heaviestAtom x)
+
+abbrev pub AtomRead : List ℕ → ℕ → ℕ → List ℕ → ℕ → List ℕ → ℕ → Part → Type 0
+AtomRead p at d a n b m = PartRead p (λ e c. Atomic p at d e c a n b m)
+
+-- A repeat, or none, after an atom that weighs v and whose codes begin at the place `from`.
+pub record Repeated (p : List ℕ) (at v e c : ℕ) (a : List ℕ) (n from : ℕ) (b : List ℕ) (m : ℕ) : Type 0 where
+  pub x : Repeat
+  pub formed : WfRepeat x
+  pub text : repeatText x (drop e p) ≡ drop at p
+  pub forward : at ≤ e
+  pub inside : e ≤ length p
+  pub settled : isOnce x ≡ true → NoRepeat (drop e p)
+  pub wrote : (y : Re) → Rewrote p a n from b m y (repeatOf x y)
+  pub load : (w h : ℕ) → w ≤ h → Weighs v w h → Weighs c (repeated x w) (max h (repeated x w))
+
+abbrev pub RepeatRead : List ℕ → ℕ → ℕ → List ℕ → ℕ → ℕ → List ℕ → ℕ → Part → Type 0
+RepeatRead p at v a n from b m = PartRead p (λ e c. Repeated p at v e c a n from b m)
+
+-- The answer for a pattern of n bytes by what was found from its start: a `)` where the alternation ends has no `(`.
+abbrev pub answerBy : ℕ → Part → Answer
+answerBy n (Refused k q) = Answer.Refused k q
+answerBy n (Read e c) = cond (ltb e n) (Answer.Refused 2 e) (cond (ltb 64 c) (Answer.Refused 8 e) Accepted)

@@ -1,0 +1,371 @@
+// Reads a pattern: alternation, sequence and atom call each other, and the bytes left fall. The codes of the written-out pattern go to an array that is lent.
+// Limits and refusals: paper 01, "The pattern's grammar" and "Refusals".
+ghost use mathlib.Core.Path.{_≡_};
+ghost use mathlib.Core.Logic.{_≢_};
+ghost use Prim.Native.Nat.{ℕ, _+_, _≤_, _<_, min, max};
+ghost use mathlib.Core.List.{List, [], _∷_};
+ghost use lib.ListN.{length, getD};
+ghost use Rattle.reader.specs.Steps.{isSpecial, loadOf, Begun, Ready, AtomAt, AlternationRead, SequenceRead, AtomRead, RepeatRead, AddedIf, answerBy};
+ghost use Rattle.reader.specs.Reading.{ReadRight};
+ghost use Rattle.tokens.specs.Held.{Added};
+use arrays::Pattern;
+use scanner::Class;
+use scanner::Count;
+
+// The reader's answer: accepted, or refused with paper 01's number and place.
+pub enum Answer {
+    Accepted,
+    Refused { number: u8, place: usize },
+}
+
+// The answer beside the pattern's arrays; those of a refused pattern are empty.
+pub struct Reading {
+    pub answer: Answer,
+    pub pattern: Pattern,
+}
+
+// What reading from a place finds: the place after it, and its weight, 65 for any above 64; or the refusal.
+pub enum Part {
+    Read { at: usize, weight: usize },
+    Refused { number: u8, place: usize },
+}
+
+// What was found, and how many codes the array then holds.
+pub struct Step {
+    pub part: Part,
+    pub len: usize,
+}
+
+fn found(at: usize, weight: usize, len: usize) -> Step
+    ensures { λ r. ⌜ r ≡ record { part = Part.Read at weight; len = len } ⌝ }
+{
+    Step {
+        part: Part::Read {
+            at: at,
+            weight: weight,
+        },
+        len: len,
+    }
+}
+
+fn refused(number: u8, place: usize, len: usize) -> Step
+    ensures { λ r. ⌜ r ≡ record { part = Part.Refused number place; len = len } ⌝ }
+{
+    Step {
+        part: Part::Refused {
+            number: number,
+            place: place,
+        },
+        len: len,
+    }
+}
+
+fn plus(a: usize, b: usize) -> usize
+    requires { ⌜ (a ≤ 65) × (b ≤ 65) ⌝ }
+    ensures { λ r. ⌜ r ≡ min 65 (a + b) ⌝ }
+{
+    if a + b < 65 { a + b } else { 65 }
+}
+
+fn one_at_least(w: usize) -> usize
+    ensures { λ r. ⌜ r ≡ max 1 w ⌝ }
+{
+    if w == 0 { 1 } else { w }
+}
+
+// The weight of that many copies; a part above the limit stays so, even under {0}.
+fn load(times: usize, weight: usize) -> usize
+    requires { ⌜ (times ≤ 64) × (weight ≤ 65) ⌝ }
+    ensures { λ r. ⌜ r ≡ loadOf times weight ⌝ }
+{
+    if weight == 65 {
+        return 65;
+    }
+    if times == 0 {
+        return 1;
+    }
+    let w = times * weight;
+    if w < 65 { w } else { 65 }
+}
+
+// An empty sequence is a part of its own.
+fn push_if_empty(a: &mut [u16; 2303], len: usize, w: usize) -> usize
+    ensures { λ r. ⌜ AddedIf (w ≡ 0) (now (a .entry)) len 0 (now (a .exit)) r ⌝ }
+{
+    if w == 0 { tokens::push(a, len, 0) } else { len }
+}
+
+// A sequence goes on after its part.
+fn push_if_more(a: &mut [u16; 2303], len: usize, w: usize) -> usize
+    ensures { λ r. ⌜ AddedIf (w ≢ 0) (now (a .entry)) len 1 (now (a .exit)) r ⌝ }
+{
+    if w == 0 { len } else { tokens::push(a, len, 1) }
+}
+
+// The count after an atom that weighs `weight` and whose codes begin at `from`.
+fn counted(s: &[u8], at: usize, weight: usize, a: &mut [u16; 2303], len: usize, from: usize) -> Step
+    requires { ⌜ Ready (now s) at × (at < length (now s)) × (getD (now s) at 0 ≡ 123) × (weight ≤ 65) ⌝ }
+    ensures { λ r. ⌜ RepeatRead (now (s .entry)) at weight (now (a .entry)) len from (now (a .exit)) (r .len) (r .part) ⌝ }
+{
+    let count = scanner::read_count(s, at + 1);
+    match count {
+        Count::Exactly { times, next } => {
+            let n = tokens::exactly(a, len, from, times);
+            found(next, load(times, weight), n)
+        }
+        Count::AtLeast { times, next } => {
+            let n = tokens::at_least(a, len, from, times);
+            found(next, load(times + 1, weight), n)
+        }
+        Count::Between { least, most, next } => {
+            let n = tokens::between(a, len, from, least, most);
+            found(next, load(most, weight), n)
+        }
+        Count::NoCount => refused(5, at, len),
+    }
+}
+
+// The repeat after an atom, or none.
+fn repeat(s: &[u8], at: usize, weight: usize, a: &mut [u16; 2303], len: usize, from: usize) -> Step
+    requires { ⌜ Ready (now s) at × (weight ≤ 65) ⌝ }
+    ensures { λ r. ⌜ RepeatRead (now (s .entry)) at weight (now (a .entry)) len from (now (a .exit)) (r .len) (r .part) ⌝ }
+{
+    if at == s.len() {
+        return found(at, weight, len);
+    }
+    let b = s[at];
+    if b == b'*' {
+        let n = tokens::star(a, len, from);
+        return found(at + 1, weight, n);
+    }
+    if b == b'+' {
+        let n = tokens::at_least(a, len, from, 1);
+        return found(at + 1, load(2, weight), n);
+    }
+    if b == b'?' {
+        let n = tokens::between(a, len, from, 0, 1);
+        return found(at + 1, weight, n);
+    }
+    if b == b'{' {
+        return counted(s, at, weight, a, len, from);
+    }
+    found(at, weight, len)
+}
+
+// A leaf's code is 4 and its place.
+fn push_leaf(a: &mut [u16; 2303], len: usize, at: usize) -> usize
+    requires { ⌜ at ≤ 255 ⌝ }
+    ensures { λ r. ⌜ Added (now (a .entry)) len ((4 + at) ∷ []) (now (a .exit)) r ⌝ }
+{
+    let code = (4 + at) as u16;
+    tokens::push(a, len, code)
+}
+
+// An escaped byte.
+fn escaped(s: &[u8], at: usize, depth: usize, a: &mut [u16; 2303], len: usize) -> Step
+    requires { ⌜ Begun (now s) at depth × (at < length (now s)) × (getD (now s) at 0 ≡ 92) ⌝ }
+    ensures { λ r. ⌜ AtomRead (now (s .entry)) at depth (now (a .entry)) len (now (a .exit)) (r .len) (r .part) ⌝ }
+{
+    if at + 1 == s.len() {
+        return refused(3, at, len);
+    }
+    if scanner::is_special(s[at + 1]) {
+        let n = push_leaf(a, len, at);
+        return found(at + 2, 1, n);
+    }
+    refused(3, at, len)
+}
+
+// A class.
+fn class_atom(s: &[u8], at: usize, depth: usize, a: &mut [u16; 2303], len: usize) -> Step
+    requires { ⌜ Begun (now s) at depth × (at < length (now s)) × (getD (now s) at 0 ≡ 91) ⌝ }
+    ensures { λ r. ⌜ AtomRead (now (s .entry)) at depth (now (a .entry)) len (now (a .exit)) (r .len) (r .part) ⌝ }
+{
+    let class = scanner::read_class(s, at + 1);
+    let Class::Ends { next } = class else {
+        return refused(4, at, len);
+    };
+    let n = push_leaf(a, len, at);
+    found(next, 1, n)
+}
+
+// An atom that is no group.
+fn leaf(s: &[u8], at: usize, depth: usize, a: &mut [u16; 2303], len: usize) -> Step
+    requires { ⌜ Begun (now s) at depth × AtomAt (now s) at × (getD (now s) at 0 ≢ 40) ⌝ }
+    ensures { λ r. ⌜ AtomRead (now (s .entry)) at depth (now (a .entry)) len (now (a .exit)) (r .len) (r .part) ⌝ }
+{
+    let b = s[at];
+    if b == b'\\' {
+        return escaped(s, at, depth, a, len);
+    }
+    if b == b'[' {
+        return class_atom(s, at, depth, a, len);
+    }
+    if b == b'.' {
+        let n = push_leaf(a, len, at);
+        return found(at + 1, 1, n);
+    }
+    if scanner::is_special(b) {
+        return refused(2, at, len);
+    }
+    let n = push_leaf(a, len, at);
+    found(at + 1, 1, n)
+}
+
+fn alternation(s: &[u8], at: usize, depth: usize, a: &mut [u16; 2303], len: usize) -> Step
+    requires { ⌜ Begun (now s) at depth ⌝ }
+    ensures { λ r. ⌜ AlternationRead (now (s .entry)) at depth (now (a .entry)) len (now (a .exit)) (r .len) (r .part) ⌝ }
+{
+    let first = sequence(s, at, depth, a, len);
+    let part = first.part;
+    let Part::Read { at: end, weight: w } = part else {
+        return first;
+    };
+    let d1 = first.len;
+    let d2 = push_if_empty(a, d1, w);
+    let own = one_at_least(w);
+    if end < s.len() {
+        if s[end] == b'|' {
+            let rest = alternation(s, end + 1, depth, a, d2);
+            let more = rest.part;
+            let Part::Read {
+                at: last,
+                weight: v,
+            } = more
+            else {
+                return rest;
+            };
+            let d3 = rest.len;
+            let d4 = tokens::push(a, d3, 2);
+            return found(last, plus(own, v), d4);
+        }
+    }
+    found(end, own, d2)
+}
+
+fn sequence(s: &[u8], at: usize, depth: usize, a: &mut [u16; 2303], len: usize) -> Step
+    requires { ⌜ Begun (now s) at depth ⌝ }
+    ensures { λ r. ⌜ SequenceRead (now (s .entry)) at depth (now (a .entry)) len (now (a .exit)) (r .len) (r .part) ⌝ }
+{
+    if at == s.len() {
+        return found(at, 0, len);
+    }
+    let b = s[at];
+    if b == b'|' {
+        return found(at, 0, len);
+    }
+    if b == b')' {
+        return found(at, 0, len);
+    }
+    let first = atom(s, at, depth, a, len);
+    let part = first.part;
+    let Part::Read { at: end, weight: w } = part else {
+        return first;
+    };
+    let d1 = first.len;
+    let again = repeat(s, end, w, a, d1, len);
+    let repeated = again.part;
+    let Part::Read {
+        at: next,
+        weight: v,
+    } = repeated
+    else {
+        return again;
+    };
+    let d2 = again.len;
+    let rest = sequence(s, next, depth, a, d2);
+    let more = rest.part;
+    let Part::Read {
+        at: last,
+        weight: u,
+    } = more
+    else {
+        return rest;
+    };
+    let d3 = rest.len;
+    let d4 = push_if_more(a, d3, u);
+    found(last, plus(v, u), d4)
+}
+
+fn atom(s: &[u8], at: usize, depth: usize, a: &mut [u16; 2303], len: usize) -> Step
+    requires { ⌜ Begun (now s) at depth × AtomAt (now s) at ⌝ }
+    ensures { λ r. ⌜ AtomRead (now (s .entry)) at depth (now (a .entry)) len (now (a .exit)) (r .len) (r .part) ⌝ }
+{
+    let b = s[at];
+    if b != b'(' {
+        return leaf(s, at, depth, a, len);
+    }
+    if depth == 16 {
+        return refused(7, at, len);
+    }
+    let inner = alternation(s, at + 1, depth + 1, a, len);
+    let part = inner.part;
+    let Part::Read { at: end, weight: w } = part else {
+        return inner;
+    };
+    let d = inner.len;
+    if end == s.len() {
+        return refused(6, end, d);
+    }
+    found(end + 1, w, d)
+}
+
+// The answer by what was found from the pattern's start.
+fn judged(s: &[u8], part: Part) -> Answer
+    ensures { λ r. ⌜ r ≡ answerBy (length (now (s .entry))) part ⌝ }
+{
+    match part {
+        Part::Refused { number, place } => Answer::Refused {
+            number: number,
+            place: place,
+        },
+        Part::Read { at: end, weight: w } => {
+            if end < s.len() {
+                return Answer::Refused {
+                    number: 2,
+                    place: end,
+                };
+            }
+            if Pattern::MAX_WEIGHT < w {
+                return Answer::Refused {
+                    number: 8,
+                    place: end,
+                };
+            }
+            Answer::Accepted
+        }
+    }
+}
+
+// Reads a pattern of any bytes and any length.
+pub fn read(s: &[u8]) -> Reading
+    ensures right { λ r. ⌜ ReadRight (now (s .entry)) r ⌝ }
+{
+    if Pattern::MAX_BYTES < s.len() {
+        let nothing = Pattern::empty();
+        return Reading {
+            answer: Answer::Refused {
+                number: 1,
+                place: 255,
+            },
+            pattern: nothing,
+        };
+    }
+    let mut codes = [0u16; 2303];
+    let whole = alternation(s, 0, 0, &mut codes, 0);
+    let part = whole.part;
+    let answer = judged(s, part);
+    let Answer::Accepted = answer else {
+        let nothing = Pattern::empty();
+        return Reading {
+            answer: answer,
+            pattern: nothing,
+        };
+    };
+    let n = whole.len;
+    let pattern = arrays::finish(s, &codes, n);
+    Reading {
+        answer: answer,
+        pattern: pattern,
+    }
+}

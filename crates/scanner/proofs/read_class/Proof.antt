@@ -1,0 +1,25 @@
+-- `scanner::read_class` meets its contract: the class is read with a byte that no one asks for.
+-- Assumes nothing.
+use borrow.Author.Needs.{needs}
+use Rattle.scanner.proofs.Classes.{class-found}
+use Rattle.scanner.proofs.read_class.Statement.{statement}
+use Rattle.scanner.proofs.read_class.Tie as tie
+
+class-at-requires : tie.Need-class-at-requires
+class-at-requires c κs = search needs
+
+enum-known-class : tie.Need-enum-known-class
+enum-known-class c = search needs
+
+enum-told : tie.Need-enum-told
+enum-told c = search needs
+
+returns : tie.Need-returns
+returns c = rw (c .enum-told .given .1) at (c .before .before .class-at .ensures)
+
+returns-2 : tie.Need-returns-2
+returns-2 c = class-found (c .before .before .before .before .before .args .s .now) (c .before .before .before .before .before .args .at) 0 _ _ (rw (c .before .class .given .1) at (c .before .before .before .class-at .ensures))
+
+pub read-class-spec : {M : Type 1} → statement M
+read-class-spec =
+    tie.close (tie.spec class-at-requires enum-known-class enum-told returns returns-2)

@@ -1,0 +1,32 @@
+-- `scanner::read_escaped` meets its contract: by the byte at the place, if there is one.
+-- Assumes nothing.
+use borrow.Author.Needs.{needs}
+use mathlib.Core.Path.{ap}
+use lib.ListN.{drop-of-length-le}
+use Rattle.grammar.specs.Code.Reader.{readEscaped}
+use Rattle.scanner.proofs.Places.{seen}
+use Rattle.scanner.proofs.Items.{escaped-marked, escaped-other}
+use Rattle.scanner.proofs.read_escaped.Statement.{statement}
+use Rattle.scanner.proofs.read_escaped.Tie as tie
+
+returns : tie.Need-returns
+returns c = ap readEscaped (drop-of-length-le (c .before .before .args .s .now) (c .if1 .taken))
+
+shared-slice-read-b : tie.Need-shared-slice-read-b
+shared-slice-read-b c = search needs
+
+is-marked-requires : tie.Need-is-marked-requires
+is-marked-requires c κs = search needs
+
+add-t9 : tie.Need-add-t9
+add-t9 c = search needs
+
+returns-2 : tie.Need-returns-2
+returns-2 c = escaped-marked (c .before .before .before .before .before .args .s .now) (c .before .before .before .before .before .args .at) (c .before .before .before .if1 .left) (seen (c .before .is-marked .ensures) (c .if2 .taken))
+
+returns-3 : tie.Need-returns-3
+returns-3 c = escaped-other (c .before .before .before .before .before .args .s .now) (c .before .before .before .before .before .args .at) (c .before .before .before .if1 .left) (seen (c .before .is-marked .ensures) (c .if2 .left))
+
+pub read-escaped-spec : {M : Type 1} → statement M
+read-escaped-spec =
+    tie.close (tie.spec returns shared-slice-read-b is-marked-requires add-t9 returns-2 returns-3)

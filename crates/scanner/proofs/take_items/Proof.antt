@@ -1,0 +1,77 @@
+-- `scanner::take_items` meets its contract: whatever is found from the place reached on, with what the items up to it hold, is found from `at` on.
+-- The measure is the bytes left.
+-- Assumes nothing.
+use borrow.Author.Needs.{needs}
+use native.Mathlib.Omega.{arith}
+use Prim.Native.Nat.{_+_, _-_}
+use lib.ListN.{length}
+use Rattle.scanner.specs.Parts.{ItemsTaken}
+use Rattle.scanner.specs.declared.Listed.{Listed}
+use Rattle.scanner.specs.declared.Listed.the-variants.{Upto, Faulty}
+use Rattle.scanner.proofs.Places.{here}
+use Rattle.scanner.proofs.Classes.{items-over, items-closed, items-fault, items-turn}
+use Rattle.scanner.proofs.take_items.Statement.{statement}
+use Rattle.scanner.proofs.take_items.Tie as tie
+
+abbrev Inv-loop : tie.InvT-loop
+Inv-loop s at b held i₀ holds₀ i holds = (r : Listed) → ItemsTaken s i b holds r → ItemsTaken s at b held r
+
+abbrev μ-loop : tie.MeasureT-loop
+μ-loop s at b held i₀ holds₀ i holds = length s - i
+
+loop-holds : tie.Need-loop-holds Inv-loop μ-loop
+loop-holds c = λ r t. t
+
+shared-slice-read-if1 : tie.Need-shared-slice-read-if1 Inv-loop μ-loop
+shared-slice-read-if1 c = search needs
+
+add-t14 : tie.Need-add-t14 Inv-loop μ-loop
+add-t14 c = search needs
+
+returns : tie.Need-returns Inv-loop μ-loop
+returns c =
+    let l = c .before .before .before .loop in let s = c .before .before .before .before .before .args .s .now in
+    l .inv (Upto (l .i + 1) (l .holds)) (items-closed s (l .i) (c .before .before .before .before .before .args .b) (l .holds) (here s (l .i) 93 (c .before .before .loop-test .taken) (c .if1 .taken)))
+
+take-item-requires : tie.Need-take-item-requires Inv-loop μ-loop
+take-item-requires c κs = search needs
+
+enum-known-item : tie.Need-enum-known-item Inv-loop μ-loop
+enum-known-item c = search needs
+
+enum-told : tie.Need-enum-told Inv-loop μ-loop
+enum-told c = search needs
+
+returns-2 : tie.Need-returns-2 Inv-loop μ-loop
+returns-2 c =
+    let l = c .before .before .before .before .before .before .loop in let s = c .before .before .before .before .before .before .before .before .args .s .now in
+    l .inv Faulty (items-fault s (l .i) (c .before .before .before .before .before .before .before .before .args .b) (l .holds) (c .before .before .before .before .before .loop-test .taken) (c .before .before .before .if1 .left) (rw (c .enum-told .given .1) at (c .before .before .take-item .ensures)))
+
+loop-less : tie.Need-loop-less Inv-loop μ-loop
+loop-less c = let o = (rw (c .before .item .given .1) at (c .before .before .before .take-item .ensures)) .3 in omega arith
+
+loop-again : tie.Need-loop-again Inv-loop μ-loop
+loop-again c =
+    let l = c .before .before .before .before .before .before .before .loop in let s = c .before .before .before .before .before .before .before .before .before .args .s .now in
+    λ r t. l .inv r (items-turn s (l .i) (c .before .before .before .before .before .before .before .before .before .args .b) (l .holds) (c .before .before .before .before .before .before .loop-test .taken) (c .before .before .before .before .if1 .left) _ _ (rw (c .before .item .given .1) at (c .before .before .before .take-item .ensures)) r t)
+
+returns-3 : tie.Need-returns-3 Inv-loop μ-loop
+returns-3 c = c .before .loop .inv Faulty (items-over (c .before .before .before .args .s .now) (c .before .loop .i) (c .before .before .before .args .b) (c .before .loop .holds) (c .loop-test .left))
+
+pub take-items-spec : {M : Type 1} → statement M
+take-items-spec =
+    tie.close
+    (tie.spec
+    Inv-loop
+    μ-loop
+    loop-holds
+    shared-slice-read-if1
+    add-t14
+    returns
+    take-item-requires
+    enum-known-item
+    enum-told
+    returns-2
+    loop-less
+    loop-again
+    returns-3)

@@ -1,0 +1,4 @@
+-- The laws of blocks, of what an array holds, and of copies.
+pub mod Blocks
+pub mod Laws
+pub mod Copying

@@ -1,0 +1,60 @@
+-- The ends of optional copies: after i turns, those of i.
+-- Assumes nothing.
+use borrow.Author.Needs.{needs}
+use mathlib.Core.Path.{_≡_}
+use Prim.Native.Nat.{_≤_, _-_}
+use native.Mathlib.Omega.{arith}
+use Rattle.tokens.specs.Held.{Added}
+use Rattle.grammar.specs.Code.Codes.{closeCodes}
+use Rattle.tokens.proofs.Laws.{added-none, added-more, same-added}
+use Rattle.tokens.proofs.Blocks.{close-more}
+use Rattle.tokens.proofs.closes.Statement.{statement}
+use Rattle.tokens.proofs.closes.Tie as tie
+
+abbrev Inv-loop : tie.InvT-loop
+Inv-loop a₀ len n end₀ i₀ a end i = (i ≤ n) × Added a₀ len (closeCodes i) a end
+
+abbrev μ-loop : tie.MeasureT-loop
+μ-loop a₀ len n end₀ i₀ a end i = n - i
+
+loop-holds : tie.Need-loop-holds Inv-loop μ-loop
+loop-holds c = (omega arith, added-none _ _)
+
+push-requires : tie.Need-push-requires Inv-loop μ-loop
+push-requires c κs = search needs
+
+push-requires-2 : tie.Need-push-requires-2 Inv-loop μ-loop
+push-requires-2 c κs = search needs
+
+push-requires-3 : tie.Need-push-requires-3 Inv-loop μ-loop
+push-requires-3 c κs = search needs
+
+add-i : tie.Need-add-i Inv-loop μ-loop
+add-i c = search needs
+
+loop-less : tie.Need-loop-less Inv-loop μ-loop
+loop-less c = search needs
+
+loop-again : tie.Need-loop-again Inv-loop μ-loop
+loop-again c = (
+  omega arith,
+  same-added (added-more (added-more (added-more (c .before .before .before .before .before .before .before .loop .inv .1) (c .before .before .before .before .push .ensures)) (c .before .before .push2 .ensures)) (c .push3 .ensures)) (close-more (c .before .before .before .before .before .before .before .loop .i)),
+)
+
+returns : tie.Need-returns Inv-loop μ-loop
+returns c = let e : c .before .loop .i ≡ c .before .before .args .n = omega arith in rw e at (c .before .loop .inv .1)
+
+pub closes-spec : {M : Type 1} → statement M
+closes-spec =
+    tie.close
+    (tie.spec
+    Inv-loop
+    μ-loop
+    loop-holds
+    push-requires
+    push-requires-2
+    push-requires-3
+    add-i
+    loop-less
+    loop-again
+    returns)

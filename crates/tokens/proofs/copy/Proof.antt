@@ -1,0 +1,63 @@
+-- One more copy of a block: after i turns, of its first i codes.
+-- Assumes nothing.
+use borrow.Author.Needs.{needs}
+use Prim.Native.Nat.{_≤_, _-_}
+use native.Mathlib.Omega.{arith}
+use lib.ListN.{take}
+use Rattle.tokens.specs.Copied.{Copied}
+use Rattle.tokens.proofs.Copying.{copy-full, copy-none, copy-more, copy-all}
+use Rattle.tokens.proofs.copy.Statement.{statement}
+use Rattle.tokens.proofs.copy.Tie as tie
+
+abbrev Inv-loop : tie.InvT-loop
+Inv-loop a₀ len from size end₀ i₀ a end i = (i ≤ size) × Copied a₀ len from size (take i) a end
+
+abbrev μ-loop : tie.MeasureT-loop
+μ-loop a₀ len from size end₀ i₀ a end i = size - i
+
+returns : tie.Need-returns Inv-loop μ-loop
+returns c = copy-full _ _ _ _ (omega arith)
+
+loop-holds : tie.Need-loop-holds Inv-loop μ-loop
+loop-holds c = (omega arith, copy-none _ _ _ _)
+
+add-at : tie.Need-add-at Inv-loop μ-loop
+add-at c = search needs
+
+mul-code : tie.Need-mul-code Inv-loop μ-loop
+mul-code c = search needs
+
+element-copy-out-code : tie.Need-element-copy-out-code Inv-loop μ-loop
+element-copy-out-code c = search needs
+
+push-requires : tie.Need-push-requires Inv-loop μ-loop
+push-requires c κs = search needs
+
+add-i : tie.Need-add-i Inv-loop μ-loop
+add-i c = search needs
+
+loop-less : tie.Need-loop-less Inv-loop μ-loop
+loop-less c = search needs
+
+loop-again : tie.Need-loop-again Inv-loop μ-loop
+loop-again c = (omega arith, copy-more _ _ _ (omega arith) (c .before .before .before .before .loop .inv .1) (c .push .ensures))
+
+returns-2 : tie.Need-returns-2 Inv-loop μ-loop
+returns-2 c = copy-all _ _ _ (c .loop-test .left) (c .before .loop .inv .1)
+
+pub copy-spec : {M : Type 1} → statement M
+copy-spec =
+    tie.close
+    (tie.spec
+    Inv-loop
+    μ-loop
+    returns
+    loop-holds
+    add-at
+    mul-code
+    element-copy-out-code
+    push-requires
+    add-i
+    loop-less
+    loop-again
+    returns-2)

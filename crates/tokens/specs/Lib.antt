@@ -1,0 +1,3 @@
+-- What an array of codes holds, and what the functions write.
+pub mod Held
+pub mod Copied
