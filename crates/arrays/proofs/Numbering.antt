@@ -14,10 +14,10 @@ use borrow.Author.Tests.{lt-ltb, le-ltb}
 use Rattle.arrays.specs.Passes.{kindOf, after, placesWith, Noted, kindsFrom, placesOf, Numbered}
 
 -- The kinds that stand, and those of the codes from i on.
-abbrev pub KindsLeft : List ℕ → List ℕ → ℕ → ℕ → List ℕ
+abbrev KindsLeft : List ℕ → List ℕ → ℕ → ℕ → List ℕ
 KindsLeft kinds l i p = take i kinds ++ kindsFrom p (drop i l)
 
-pub kinds-turn : (kinds l : List ℕ) (i p : ℕ) → i < length kinds → i < length l
+kinds-turn : (kinds l : List ℕ) (i p : ℕ) → i < length kinds → i < length l
     → KindsLeft (set kinds i (kindOf p (getD l i 0))) l (i + 1) (after p (getD l i 0)) ≡ KindsLeft kinds l i p
 unfolding kindsFrom
 kinds-turn kinds l i p h k =
@@ -25,7 +25,7 @@ kinds-turn kinds l i p h k =
     (append-assoc (take i kinds) (kindOf p (getD l i 0) ∷ []) (kindsFrom (after p (getD l i 0)) (drop (suc i) l)))
 
 -- The places that stand, and those of the leaves from i on, as many as there is room for.
-abbrev pub PlacesLeft : List ℕ → List ℕ → ℕ → ℕ → List ℕ
+abbrev PlacesLeft : List ℕ → List ℕ → ℕ → ℕ → List ℕ
 PlacesLeft places l i p = take p places ++ take (64 - p) (placesOf (drop i l))
 
 placed : (places l : List ℕ) (p c : ℕ) → p ≤ 64 → length places ≡ 64
@@ -44,42 +44,38 @@ placed places l p c h k = go (decLt c 4) (decLt p 64)
         let e : 64 - p ≡ 0 = omega arith in
         rw (le-ltb c 4 (omega arith), le-ltb p 64 (omega arith), e)
 
-pub places-turn : (places l : List ℕ) (i p : ℕ) → p ≤ 64 → length places ≡ 64 → i < length l
+places-turn : (places l : List ℕ) (i p : ℕ) → p ≤ 64 → length places ≡ 64 → i < length l
     → PlacesLeft (placesWith p (getD l i 0) places) l (i + 1) (after p (getD l i 0)) ≡ PlacesLeft places l i p
 places-turn places l i p h k m = rw (add-one i, drop-cons l i 0 m) (placed places (drop (suc i) l) p (getD l i 0) h k)
 
--- How many leaves the code makes it, with the rest.
-after-most : (p c : ℕ) (l : List ℕ) → after p c + length (placesOf l) ≤ p + length (placesOf (c ∷ l))
-unfolding placesOf
-after-most p c l = go (decLt c 4) (decLt p 64)
-  where
-    go : Dec (c < 4) → Dec (p < 64) → after p c + length (placesOf l) ≤ p + length (placesOf (c ∷ l))
-    go (yes a) d = rw (lt-ltb c 4 a) (omega arith)
-    go (no a) (yes b) = rw (le-ltb c 4 (omega arith), lt-ltb p 64 b) (omega arith)
-    go (no a) (no b) = rw (le-ltb c 4 (omega arith), le-ltb p 64 (omega arith)) (omega arith)
+-- The bounds of a code c before the codes l: at most 64 leaves are counted, no more than there are, and no kind is a leaf past them.
+record Bounds (p c : ℕ) (l : List ℕ) : Type 0 where
+  room : p ≤ 64 → after p c ≤ 64
+  most : after p c + length (placesOf l) ≤ p + length (placesOf (c ∷ l))
+  below : kindOf p c < 4 + (p + length (placesOf (c ∷ l)))
 
-kind-below : (p c : ℕ) (l : List ℕ) → kindOf p c < 4 + (p + length (placesOf (c ∷ l)))
+bounds : (p c : ℕ) (l : List ℕ) → Bounds p c l
 unfolding placesOf
-kind-below p c l = go (decLt c 4) (decLt p 64)
+bounds p c l = go (decLt c 4) (decLt p 64)
   where
-    go : Dec (c < 4) → Dec (p < 64) → kindOf p c < 4 + (p + length (placesOf (c ∷ l)))
-    go (yes a) d = rw (lt-ltb c 4 a) (omega arith)
-    go (no a) (yes b) = rw (le-ltb c 4 (omega arith), lt-ltb p 64 b) (omega arith)
-    go (no a) (no b) = rw (le-ltb c 4 (omega arith), le-ltb p 64 (omega arith)) (omega arith)
+    go : Dec (c < 4) → Dec (p < 64) → Bounds p c l
+    go (yes a) d =
+        let e = lt-ltb c 4 a in
+        record { room = rw e (λ h. h); most = rw e (omega arith); below = rw e (omega arith) }
+    go (no a) (yes b) =
+        let e = le-ltb c 4 (omega arith) in
+        let f = lt-ltb p 64 b in
+        record { room = rw (e, f) (λ h. omega arith); most = rw (e, f) (omega arith); below = rw (e, f) (omega arith) }
+    go (no a) (no b) =
+        let e = le-ltb c 4 (omega arith) in
+        let f = le-ltb p 64 (omega arith) in
+        record { room = rw (e, f) (λ h. h); most = rw (e, f) (omega arith); below = rw (e, f) (omega arith) }
 
 pub kinds-below : (p : ℕ) (l : List ℕ) (i : ℕ) → getD (kindsFrom p l) i 0 < 4 + (p + length (placesOf l))
 unfolding kindsFrom
 kinds-below p [] i = omega arith
-kinds-below p (c ∷ l) zero = kind-below p c l
-kinds-below p (c ∷ l) (suc i) = omega (arith, kinds-below (after p c) l i, after-most p c l)
-
-pub after-room : (p c : ℕ) → p ≤ 64 → after p c ≤ 64
-after-room p c h = go (decLt c 4) (decLt p 64)
-  where
-    go : Dec (c < 4) → Dec (p < 64) → after p c ≤ 64
-    go (yes a) d = rw (lt-ltb c 4 a) h
-    go (no a) (yes b) = rw (le-ltb c 4 (omega arith), lt-ltb p 64 b) (omega arith)
-    go (no a) (no b) = rw (le-ltb c 4 (omega arith), le-ltb p 64 (omega arith)) h
+kinds-below p (c ∷ l) zero = bounds p c l .below
+kinds-below p (c ∷ l) (suc i) = omega (arith, kinds-below (after p c) l i, bounds p c l .most)
 
 -- One code: a kind, a leaf, and a leaf for which there is no room.
 pub noted-kind : (c i p : ℕ) (kinds places : List ℕ) → c < 4 → Noted c i p kinds places (set kinds i c) places p
@@ -125,7 +121,7 @@ standing-turn codes kinds places kinds′ places′ n i p p′ h k m s w =
     let b : i < length (take n codes) = omega (arith, length-take-le n codes m) in
     rw (w .kind, w .place, w .leaves, ← e)
     (record {
-      room = after-room p (getD (take n codes) i 0) (s .room);
+      room = bounds p (getD (take n codes) i 0) [] .room (s .room);
       long = length-set kinds i _ ∙ s .long;
       short = length-placesWith p (getD (take n codes) i 0) places ∙ s .short;
       kinds-left = kinds-turn kinds (take n codes) i p (omega (arith, s .long)) b ∙ s .kinds-left;

@@ -11,7 +11,7 @@ use borrow.Author.Tests.{lt-ltb, le-ltb, le-leb, ne-eqb, ltb-true}
 use Rattle.theory.specs.Pattern.{Re, empty, leaf, seq, alt, star}
 use Rattle.grammar.specs.Code.Tokens.{nodes, Token, nil, both, or, many, byte, tokens}
 use Rattle.grammar.specs.Code.Codes.{leafHolds}
-use Rattle.grammar.proofs.Tokens.{At, at, at-token, head, seq-right, seq-left, alt-right, alt-left, star-part, tokens-length}
+use Rattle.grammar.proofs.Tokens.{nodes-pos, At, at, at-token, head, seq-right, seq-left, alt-right, alt-left, star-part, tokens-length}
 use Rattle.arrays.specs.Decoded.{hasBit, middle, partOf, part}
 use Rattle.arrays.specs.Passes.{leftSize, sizeOf, Sized, Masked}
 
@@ -64,14 +64,6 @@ part-token s places masks n (suc (suc (suc (suc p)))) whole left right h m b =
     let t : ltb p n ≡ true = lt-ltb p n (omega arith) in
     rw (lt-ltb p 64 (omega arith))
     (ap (leaf p) (bytes-same (λ c. hasBit (getD masks c 0) p) (λ c. leafHolds (drop (getD places p 0) s) c) (λ c l. h c p l ∙ rw t)))
-
-pub nodes-pos : (r : Re) → 0 < nodes r
-unfolding nodes
-nodes-pos empty = omega arith
-nodes-pos (leaf p s) = omega arith
-nodes-pos (seq x y) = omega arith
-nodes-pos (alt x y) = omega arith
-nodes-pos (star x) = omega arith
 
 -- A part that ends at a place of the list stands within it.
 at-fits : {l : List Token} {n : ℕ} {r : Re} → At l n r → (nodes r ≤ suc n) × (n < length l)

@@ -13,12 +13,14 @@ use borrow.Author.Tests.{lt-ltb, le-ltb, ltb-true}
 use Rattle.theory.specs.Pattern.{Re, count, number}
 use Rattle.grammar.specs.Code.Tokens.{nodes, nil, both, or, many, byte, tokens, renumber, leafs}
 use Rattle.grammar.specs.Code.Codes.{tokenOf, leafHolds}
-use Rattle.grammar.proofs.Tokens.{at, at-whole, tokens-length, tokens-number, leafs-tokens}
+use Rattle.theory.proofs.Numbering.{number-count}
+use Rattle.grammar.proofs.Size.{number-nodes}
+use Rattle.grammar.proofs.Tokens.{nodes-pos, at-whole, tokens-length, tokens-number, leafs-tokens}
 use Rattle.arrays.specs.Decoded.{part, decode}
 use Rattle.arrays.specs.Passes.{after, kindsFrom, placesOf, Sized, Masked, Numbered}
 use Rattle.arrays.specs.Finished.{Finished}
 use Rattle.arrays.proofs.Numbering.{kinds-below}
-use Rattle.arrays.proofs.Parts.{kindToken, nodes-pos, part-right}
+use Rattle.arrays.proofs.Parts.{kindToken, part-right}
 
 -- The kinds of the codes are their tokens with the leaves numbered: a has the places of the p leaves before them.
 renumbered : (s places l a : List ℕ) (p : ℕ) → length a ≡ p → a ++ placesOf l ≡ places → length places ≤ 64
@@ -111,4 +113,10 @@ pub finished : (s codes places kinds sizes masks : List ℕ) (len n leaves : ℕ
 unfolding decode
 finished s codes places kinds sizes masks len n leaves e numbered sized masked r is room =
     let same : take len codes ≡ take n codes = rw e (take-within len codes) in
-    arrays-right s (take n codes) places kinds sizes masks n leaves (length-take-le n codes (omega arith)) numbered sized masked r (rw same at is) room
+    let long = length-take-le n codes (omega arith) in
+    let (parts, counted) = arrays-measured s (take n codes) places kinds sizes masks n leaves long numbered sized masked r (rw same at is) room in
+    record {
+      decodes = arrays-right s (take n codes) places kinds sizes masks n leaves long numbered sized masked r (rw same at is) room;
+      parts = parts ∙ sym (number-nodes 0 r);
+      leaves = counted ∙ sym (number-count 0 r);
+    }

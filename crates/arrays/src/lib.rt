@@ -1,10 +1,9 @@
 // The written-out pattern in arrays: what the reader hands over and the matchers walk.
 // `finish` makes the arrays from the reader's codes in three passes: kinds, sizes and masks. Codes that are no pattern give arrays too.
 ghost use mathlib.Core.Path.{_≡_};
-ghost use Prim.Native.Nat.{ℕ, _+_, _<_, _≤_, min};
-ghost use lib.ListN.{length, take, drop};
+ghost use Prim.Native.Nat.{_+_, _<_, _≤_, min};
+ghost use lib.ListN.{length, take};
 ghost use lib.Dec.{ltb};
-ghost use Rattle.grammar.specs.Code.Codes.{leafHolds};
 ghost use Rattle.arrays.specs.Decoded.{hasBit, blank};
 ghost use Rattle.arrays.specs.Passes.{Noted, Numbered, Small, leftSize, sizeOf, sizeAt, Sized, Union, Added, Places, Marked, MarkedTo, Masked, Turn};
 ghost use Rattle.arrays.specs.Finished.{Finished};

@@ -39,7 +39,7 @@ tokens-injective x y e =
 pub data At (l : List Token) (n : ℕ) (r : Re) : Type 0 where
   at : (a z : List Token) → a ++ (tokens r ++ z) ≡ l → suc n ≡ length a + nodes r → At l n r
 
-nodes-pos : (r : Re) → 0 < nodes r
+pub nodes-pos : (r : Re) → 0 < nodes r
 unfolding nodes
 nodes-pos empty = omega arith
 nodes-pos (leaf p s) = omega arith

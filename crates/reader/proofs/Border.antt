@@ -1,6 +1,6 @@
 -- What the reader hands over is right: from what was found from the pattern's start.
 -- Assumes nothing.
-use mathlib.Core.Path.{_≡_, refl, sym, ap, _∙_}
+use mathlib.Core.Path.{_≡_, refl, sym, ap, _∙_, subst}
 use Prim.Native.Nat.{ℕ, _+_, _≤_, _<_}
 use mathlib.Core.Bool.{Bool, true, false, not, cond}
 use mathlib.Core.List.{List, [], _∷_, map}
@@ -25,6 +25,7 @@ use Rattle.tokens.specs.Held.{Holds}
 use Rattle.arrays.specs.declared.Pattern.{Pattern}
 use Rattle.arrays.specs.Decoded.{decode, blank}
 use Rattle.arrays.specs.Finished.{Finished}
+use Rattle.arrays.specs.Finished as Arrays
 use Rattle.reader.specs.declared.Part.{Part}
 use Rattle.reader.specs.declared.Part.the-variants.{Read, Refused}
 use Rattle.reader.specs.declared.Answer.{Answer}
@@ -35,7 +36,7 @@ use Rattle.reader.specs.Steps.{Weighs, light, heavy, Alternated, Alterna
 use Rattle.reader.proofs.Begins.{byte-drop, drop-all}
 
 pub read-long : (p : List ℕ) (x : Pattern) → 255 < length p → x ≡ blank → ReadRight p (record { answer = Answer.Refused 1 255; pattern = x })
-read-long p x h e = record { answer = Due.refused 1 255; right = tooLong h refl refl; means = refl; empty = e }
+read-long p x h e = record { answer = Due.refused 1 255; right = tooLong h refl refl; means = refl; beside = e }
 
 -- The array before anything is written.
 pub holds-none : Holds (replicate 2303 0) 0 []
@@ -77,7 +78,7 @@ module _ {p a b : List ℕ} {n m e c : ℕ} (short : length p ≤ 255) (t : Alte
     found-tree h = record { text = whole-text; formed = t .formed; short = short; shallow = omega (arith, t .shallow); light = not-heavy (t .load) h }
 
     -- Its codes all fit, so the arrays made of them are the written-out pattern.
-    pub found-written : c ≤ 64 → a ≡ replicate 2303 0 → n ≡ 0 → (x : Pattern) → Finished p (take m b) x → decode x ≡ writeOut (t .t)
+    pub found-written : c ≤ 64 → a ≡ replicate 2303 0 → n ≡ 0 → (x : Pattern) → Finished p (take m b) x → Arrays.Holds x (writeOut (t .t))
     unfolding writeOut
     found-written h z y x f =
         let r = found-tree h in
@@ -90,12 +91,12 @@ module _ {p a b : List ℕ} {n m e c : ℕ} (short : length p ≤ 255) (t : Alte
 -- THE ANSWER IS RIGHT, with the arrays that were made for an accepted pattern, and the empty ones for any other.
 module _ {p : List ℕ} (short : length p ≤ 255) (x : Pattern) where
   refuse : (r : Answer) (n q : ℕ) → r ≡ Answer.Refused n q → Fault p n q → ((k j : ℕ) → r ≡ Answer.Refused k j → x ≡ blank) → ReadRight p (record { answer = r; pattern = x })
-  refuse r n q e f h = let z = h n q e in rw e (record { answer = Due.refused n q; right = f; means = refl; empty = z })
+  refuse r n q e f h = let z = h n q e in rw e (record { answer = Due.refused n q; right = f; means = refl; beside = z })
 
   accept : {b : List ℕ} {m e c : ℕ} (r : Answer) → r ≡ Accepted → (t : Alternated p 0 0 e c (replicate 2303 0) 0 b m) → length p ≤ e → c ≤ 64 → (r ≡ Accepted → Finished p (take m b) x) → ReadRight p (record { answer = r; pattern = x })
   accept r q t l h f =
       let w = found-written short t l h refl refl x (f q) in
-      rw q (record { answer = Due.accepted (t .t); right = found-tree short t l h; means = ap accepted w; empty = tt })
+      rw q (record { answer = Due.accepted (t .t); right = found-tree short t l h; means = ap accepted (w .decodes); beside = subst (Arrays.Holds x) (sym (w .decodes)) w })
 
   pub read-right : {b : List ℕ} {m : ℕ} {part : Part} (r : Answer) → AlternationRead p 0 0 (replicate 2303 0) 0 b m part → r ≡ answerBy (length p) part → (r ≡ Accepted → Finished p (take m b) x) → ((n q : ℕ) → r ≡ Answer.Refused n q → x ≡ blank)
       → ReadRight p (record { answer = r; pattern = x })

@@ -9,6 +9,7 @@ use Rattle.grammar.specs.Refusals.{Right}
 use Rattle.grammar.specs.Refusals as Due
 use Rattle.arrays.specs.declared.Pattern.{Pattern}
 use Rattle.arrays.specs.Decoded.{decode, blank}
+use Rattle.arrays.specs.Finished.{Holds}
 use Rattle.reader.specs.declared.Answer.{Answer}
 use Rattle.reader.specs.declared.Answer.the-variants.{Accepted, Refused}
 use Rattle.reader.specs.declared.Reading.{Reading}
@@ -28,14 +29,14 @@ abbrev pub due : Due.Answer → Written
 due (Due.accepted t) = accepted (writeOut t)
 due (Due.refused n q) = refused n q
 
--- A refused pattern has the empty pattern's arrays.
-abbrev pub Unread : Answer → Pattern → Type 0
-Unread Accepted x = Unit {0}
-Unread (Refused n q) x = x ≡ blank
+-- The arrays: an accepted pattern's have a place for each part and its leaves counted, a refused one's are the empty pattern's.
+abbrev pub Beside : Answer → Pattern → Type 0
+Beside Accepted x = Holds x (decode x)
+Beside (Refused n q) x = x ≡ blank
 
 -- The reader's answer is the one that is right, and the arrays are the written-out pattern's, leaf sets included.
 pub record ReadRight (p : List ℕ) (r : Reading) : Type 0 where
   pub answer : Due.Answer
   pub right : Right p answer
   pub means : meaning (r .answer) (r .pattern) ≡ due answer
-  pub empty : Unread (r .answer) (r .pattern)
+  pub beside : Beside (r .answer) (r .pattern)

@@ -8,19 +8,19 @@ use native.Mathlib.Omega.{arith}
 use lib.ListN.{length, getD, drop, drop-of-length-le, length-drop}
 use lib.Dec.{eqb}
 use Rattle.grammar.specs.Grammar
-use Rattle.grammar.specs.Grammar.{Name, alpha, digit, alnum, upper, lower, xdigit, space, punct, single, range, named, class, itemText, Inside, usual, backslash, closing, opening, caret, dash, inside}
+use Rattle.grammar.specs.Grammar.{Name, alpha, digit, alnum, upper, lower, xdigit, space, punct, single, range, named, class, Inside, usual, backslash, closing, opening, caret, dash, inside}
 use Rattle.grammar.specs.Sets.{bitOf, setTable, spans, inItem, inItems}
 use Rattle.grammar.specs.Code.Reader.{Found, found, missing, andThen, readItem, isClosing, readItems, readListed, isCaret, readClass}
 use Rattle.grammar.specs.Code.Codes.{firstHolds, foundHolds}
 use Rattle.grammar.proofs.Texts.{InsideOk, inside-ok, len-item}
-use Rattle.grammar.proofs.Pieces.{Sound, item-sound}
-use Rattle.scanner.specs.Scanned.{Onward, ItemFound, ClassFound}
+use Rattle.grammar.proofs.Pieces.{item-sound}
+use Rattle.scanner.specs.Scanned.{ItemFound, ClassFound}
 use Rattle.scanner.specs.Parts.{ItemTaken, ItemsTaken, AllTaken, ClassHeld}
 use Rattle.scanner.specs.declared.Item.the-variants.{Single, Range, Named}
 use Rattle.scanner.specs.declared.Listed.{Listed}
 use Rattle.scanner.specs.declared.Listed.the-variants.{Upto, Faulty}
 use Rattle.scanner.specs.declared.Class.the-variants.{Ends}
-use Rattle.scanner.proofs.Places.{Here, byte-here, onward-next, onward-from, first-other}
+use Rattle.scanner.proofs.Places.{Here, onward-next, onward-from, first-other}
 
 -- A set has a bit.
 pub bit-positive : (n : Name) → 0 < bitOf n
@@ -67,84 +67,84 @@ items-fuel (suc f) (suc g) (b ∷ s) h k = ap (cond (isClosing (inside b)) (foun
     go missing short ih = refl
 
 -- The items up to the `]`.
-module _ (p : List ℕ) (at b : ℕ) (held : Bool) where
-  pub items-over : length p ≤ at → ItemsTaken p at b held Faulty
-  unfolding readItems
-  items-over h = rw (drop-of-length-le p h) refl
+pub items-over : (p : List ℕ) (at b : ℕ) (held : Bool) → length p ≤ at → ItemsTaken p at b held Faulty
+unfolding readItems
+items-over p at b held h = rw (drop-of-length-le p h) refl
 
-  pub items-closed : Here p at 93 → ItemsTaken p at b held (Upto (at + 1) held)
-  unfolding readItems inside
-  items-closed h = ([], rw (h .rest) refl, sym (or-false held), onward-next p at (h .inside))
+pub items-closed : {p : List ℕ} {at : ℕ} (b : ℕ) (held : Bool) → Here p at 93 → ItemsTaken p at b held (Upto (at + 1) held)
+unfolding readItems inside
+items-closed b held h = ([], rw (h .rest) refl, sym (or-false held), onward-next h)
 
-  module _ (h : at < length p) (n : getD p at 0 ≡ 93 → ⊥) where
-    next : readItems (length (drop at p)) (drop at p) ≡ andThen (readItem (drop at p)) (λ x r. andThen (readItems (length (drop (at + 1) p)) r) (λ l r′. found (x ∷ l) r′))
-    unfolding readItems
-    next = rw (byte-here p at h) (go (inside (getD p at 0)) refl (inside-ok (getD p at 0)))
-      where
-        go :
-            (k : Inside) → inside (getD p at 0) ≡ k → InsideOk (getD p at 0) k →
-            cond (isClosing (inside (getD p at 0))) (found [] (drop (at + 1) p)) (andThen (readItem (getD p at 0 ∷ drop (at + 1) p)) (λ x r. andThen (readItems (length (drop (at + 1) p)) r) (λ l r′. found (x ∷ l) r′)))
-            ≡ andThen (readItem (getD p at 0 ∷ drop (at + 1) p)) (λ x r. andThen (readItems (length (drop (at + 1) p)) r) (λ l r′. found (x ∷ l) r′))
-        go usual e o = rw e refl
-        go backslash e o = rw e refl
-        go closing e o = absurd (n o)
-        go opening e o = rw e refl
-        go caret e o = rw e refl
-        go dash e o = rw e refl
-
-    pub items-fault : readItem (drop at p) ≡ missing → ItemsTaken p at b held Faulty
-    items-fault e = next ∙ rw e refl
-
-    pub items-turn : (mid : ℕ) (holds : Bool) → ItemTaken p at b held (Upto mid holds) → (r : Listed) → ItemsTaken p mid b holds r → ItemsTaken p at b held r
-    items-turn mid holds (x, f, q, o) r t = go r t
-      where
-        rest : readItems (length (drop at p)) (drop at p) ≡ andThen (readItems (length (drop mid p)) (drop mid p)) (λ l r′. found (x ∷ l) r′)
-        rest =
-            let s : length (drop mid p) ≤ length (drop (at + 1) p) = rw (length-drop mid p, length-drop (at + 1) p) (omega arith) in
-            next ∙ rw (f, items-fuel (length (drop (at + 1) p)) (length (drop mid p)) (drop mid p) s (omega arith)) refl
-
-        go : (r : Listed) → ItemsTaken p mid b holds r → ItemsTaken p at b held r
-        go (Upto e w) (l, g, u, k) = (x ∷ l, rest ∙ rw g refl, u ∙ rw q (or-assoc held (inItem x b) (inItems l b)), onward-from (omega arith) k)
-        go Faulty g = rest ∙ rw g refl
-
--- One or more items.
-module _ (p : List ℕ) (at b : ℕ) where
-  pub all-fault : readItem (drop at p) ≡ missing → AllTaken p at b Faulty
-  all-fault e = λ c. rw e refl
-
-  pub all-taken : (mid : ℕ) (holds : Bool) → ItemTaken p at b false (Upto mid holds) → (r : Listed) → ItemsTaken p mid b holds r → AllTaken p at b r
-  all-taken mid holds (x, f, q, o) (Upto e w) (l, g, u, k) = (x, l, λ c. rw (f, g) refl, u ∙ rw q refl, onward-from (omega arith) k)
-  all-taken mid holds (x, f, q, o) Faulty g = λ c. rw (f, g) refl
-
-  -- A class.
-  bare : (s : List ℕ) → firstHolds s 94 ≡ false → readClass s ≡ readListed false s
-  bare [] e = refl
-  bare (c ∷ s) e = go (inside c) (inside-ok c)
+module _ {p : List ℕ} {at a : ℕ} (b : ℕ) (held : Bool) (h : Here p at a) (n : a ≡ 93 → ⊥) where
+  going : isClosing (inside a) ≡ false
+  going = go (inside a) (inside-ok a)
     where
-      go : (k : Inside) → InsideOk c k → cond (isCaret k) (readListed true s) (readListed false (c ∷ s)) ≡ readListed false (c ∷ s)
+      go : (k : Inside) → InsideOk a k → isClosing k ≡ false
       go usual o = refl
       go backslash o = refl
-      go closing o = refl
+      go closing o = absurd (n o)
       go opening o = refl
-      go caret o = absurd (first-other 94 c e o)
+      go caret o = refl
       go dash o = refl
 
-  pub class-bare : firstHolds (drop at p) 94 ≡ false → (r : Listed) → AllTaken p at b r → ClassHeld p at b r
-  class-bare e (Upto mid w) (x, l, f, u, k) = (false, x, l, bare (drop at p) e ∙ f false, u, k)
-  class-bare e Faulty f = bare (drop at p) e ∙ f false
+  next : readItems (length (drop at p)) (drop at p) ≡ andThen (readItem (drop at p)) (λ x r. andThen (readItems (length (drop (at + 1) p)) r) (λ l r′. found (x ∷ l) r′))
+  unfolding readItems
+  next = rw (h .rest, going) refl
 
-  negated : Here p at 94 → readClass (drop at p) ≡ readListed true (drop (at + 1) p)
+  pub items-fault : readItem (drop at p) ≡ missing → ItemsTaken p at b held Faulty
+  items-fault e = next ∙ rw e refl
+
+  pub items-turn : {mid : ℕ} {holds : Bool} → ItemTaken p at b held (Upto mid holds) → (r : Listed) → ItemsTaken p mid b holds r → ItemsTaken p at b held r
+  items-turn {mid} {holds} (x, f, q, o) r t = go r t
+    where
+      rest : readItems (length (drop at p)) (drop at p) ≡ andThen (readItems (length (drop mid p)) (drop mid p)) (λ l r′. found (x ∷ l) r′)
+      rest =
+          let s : length (drop mid p) ≤ length (drop (at + 1) p) = rw (length-drop mid p, length-drop (at + 1) p) (omega arith) in
+          next ∙ rw (f, items-fuel (length (drop (at + 1) p)) (length (drop mid p)) (drop mid p) s (omega arith)) refl
+
+      go : (r : Listed) → ItemsTaken p mid b holds r → ItemsTaken p at b held r
+      go (Upto e w) (l, g, u, k) = (x ∷ l, rest ∙ rw g refl, u ∙ rw q (or-assoc held (inItem x b) (inItems l b)), onward-from (omega arith) k)
+      go Faulty g = rest ∙ rw g refl
+
+-- One or more items.
+pub all-fault : (p : List ℕ) (at b : ℕ) → readItem (drop at p) ≡ missing → AllTaken p at b Faulty
+all-fault p at b e = λ c. rw e refl
+
+pub all-taken : {p : List ℕ} {at mid : ℕ} {holds : Bool} (b : ℕ) → ItemTaken p at b false (Upto mid holds) → (r : Listed) → ItemsTaken p mid b holds r → AllTaken p at b r
+all-taken b (x, f, q, o) (Upto e w) (l, g, u, k) = (x, l, λ c. rw (f, g) refl, u ∙ rw q refl, onward-from (omega arith) k)
+all-taken b (x, f, q, o) Faulty g = λ c. rw (f, g) refl
+
+-- A class.
+bare : (s : List ℕ) → firstHolds s 94 ≡ false → readClass s ≡ readListed false s
+bare [] e = refl
+bare (c ∷ s) e = go (inside c) (inside-ok c)
+  where
+    go : (k : Inside) → InsideOk c k → cond (isCaret k) (readListed true s) (readListed false (c ∷ s)) ≡ readListed false (c ∷ s)
+    go usual o = refl
+    go backslash o = refl
+    go closing o = refl
+    go opening o = refl
+    go caret o = absurd (first-other 94 c e o)
+    go dash o = refl
+
+pub class-bare : (p : List ℕ) (at b : ℕ) → firstHolds (drop at p) 94 ≡ false → (r : Listed) → AllTaken p at b r → ClassHeld p at b r
+class-bare p at b e (Upto mid w) (x, l, f, u, k) = (false, x, l, bare (drop at p) e ∙ f false, u, k)
+class-bare p at b e Faulty f = bare (drop at p) e ∙ f false
+
+module _ {p : List ℕ} {at : ℕ} (b : ℕ) (h : Here p at 94) where
+  negated : readClass (drop at p) ≡ readListed true (drop (at + 1) p)
   unfolding inside
-  negated h = rw (h .rest) refl
+  negated = rw (h .rest) refl
 
-  pub class-negated : Here p at 94 → (mid : ℕ) (w : Bool) → AllTaken p (at + 1) b (Upto mid w) → ClassHeld p at b (Upto mid (not w))
-  class-negated h mid w (x, l, f, u, k) = (true, x, l, negated h ∙ f true, ap not u, onward-from (omega arith) k)
+  pub class-negated : {mid : ℕ} {w : Bool} → AllTaken p (at + 1) b (Upto mid w) → ClassHeld p at b (Upto mid (not w))
+  class-negated (x, l, f, u, k) = (true, x, l, negated ∙ f true, ap not u, onward-from (omega arith) k)
 
-  pub class-fault : Here p at 94 → AllTaken p (at + 1) b Faulty → ClassHeld p at b Faulty
-  class-fault h f = negated h ∙ f true
+  pub class-fault : AllTaken p (at + 1) b Faulty → ClassHeld p at b Faulty
+  class-fault f = negated ∙ f true
 
-  pub class-found : (mid : ℕ) (w : Bool) → ClassHeld p at b (Upto mid w) → ClassFound p at (Ends mid)
-  class-found mid w (c, x, l, f, u, k) = (class c x l, f, k)
+module _ {p : List ℕ} {at mid : ℕ} {w : Bool} (b : ℕ) where
+  pub class-found : ClassHeld p at b (Upto mid w) → ClassFound p at (Ends mid)
+  class-found (c, x, l, f, u, k) = (class c x l, f, k)
 
-  pub class-holds : (mid : ℕ) (w : Bool) → ClassHeld p at b (Upto mid w) → w ≡ foundHolds (readClass (drop at p)) b
-  class-holds mid w (c, x, l, f, u, k) = u ∙ rw f refl
+  pub class-holds : ClassHeld p at b (Upto mid w) → w ≡ foundHolds (readClass (drop at p)) b
+  class-holds (c, x, l, f, u, k) = u ∙ rw f refl

@@ -1,15 +1,15 @@
 -- An item of a class, part by part.
 -- Assumes nothing.
 use mathlib.Core.Path.{_≡_, refl, _∙_}
-use Prim.Native.Nat.{ℕ, _+_, _≤_, _<_}
-use mathlib.Core.Bool.{Bool, true, false}
+use Prim.Native.Nat.{ℕ, _+_}
+use mathlib.Core.Bool.{true, false}
 use mathlib.Core.List.{List, [], _∷_}
 use native.Mathlib.Omega.{arith}
-use lib.ListN.{length, getD, drop}
-use lib.Dec.{eqb, leb}
+use lib.ListN.{drop}
+use lib.Dec.{leb}
 use Rattle.grammar.specs.Grammar.{Byte, plain, escaped, value, single, range, Inside, usual, backslash, closing, opening, caret, dash, inside, marked}
 use Rattle.grammar.specs.Sets.{names}
-use Rattle.grammar.specs.Code.Reader.{Found, found, missing, andThen, only, readEscaped, innerBy, readInner, readNamed, rangeBy, readRange, itemBy, readItem}
+use Rattle.grammar.specs.Code.Reader.{found, missing, andThen, only, readEscaped, innerBy, readInner, readNamed, rangeBy, readRange, itemBy, readItem}
 use Rattle.grammar.specs.Code.Codes.{firstHolds}
 use Rattle.grammar.proofs.Texts.{InsideOk, inside-ok}
 use Rattle.scanner.specs.Scanned.{Onward, ItemFound}
@@ -17,29 +17,20 @@ use Rattle.scanner.specs.Parts.{InnerFound}
 use Rattle.scanner.specs.declared.Inner.{Inner}
 use Rattle.scanner.specs.declared.Inner.the-variants.{Is, NoByte}
 use Rattle.scanner.specs.declared.Item.the-variants.{Range}
-use Rattle.scanner.proofs.Places.{Here, byte-here, onward-next, onward-from, first-other}
-
--- What is found further on.
-pub inner-from : (p : List ℕ) (from mid : ℕ) {m n : Found Byte} (r : Inner) → m ≡ n → from ≤ mid → InnerFound n p mid r → InnerFound m p from r
-inner-from p from mid (Is b e) q l (x, f, v, o) = (x, q ∙ f, v, onward-from l o)
-inner-from p from mid NoByte q l f = q ∙ f
+use Rattle.scanner.proofs.Places.{Here, onward-next, onward-from, first-other}
 
 -- A byte of a class.
-module _ (p : List ℕ) (at : ℕ) (h : at < length p) where
-  pub escaped-marked : marked (inside (getD p at 0)) ≡ true → InnerFound (readEscaped (drop at p)) p at (Is (getD p at 0) (at + 1))
-  escaped-marked e = (escaped (getD p at 0), rw (byte-here p at h, e) refl, refl, onward-next p at h)
+module _ {p : List ℕ} {at b : ℕ} (h : Here p at b) where
+  pub escaped-marked : marked (inside b) ≡ true → InnerFound (readEscaped (drop at p)) p at (Is b (at + 1))
+  escaped-marked e = (escaped b, rw (h .rest, e) refl, refl, onward-next h)
 
-  pub escaped-other : marked (inside (getD p at 0)) ≡ false → readEscaped (drop at p) ≡ missing
-  escaped-other e = rw (byte-here p at h, e) refl
+  pub escaped-other : marked (inside b) ≡ false → readEscaped (drop at p) ≡ missing
+  escaped-other e = rw (h .rest, e) refl
 
-  pub inner-escape : getD p at 0 ≡ 92 → readInner (drop at p) ≡ readEscaped (drop (at + 1) p)
-  unfolding inside
-  inner-escape e = rw (byte-here p at h, e) refl
-
-  pub inner-marked : (getD p at 0 ≡ 92 → ⊥) → marked (inside (getD p at 0)) ≡ true → readInner (drop at p) ≡ missing
-  inner-marked n e = rw (byte-here p at h) (go (inside (getD p at 0)) (inside-ok (getD p at 0)) e)
+  pub inner-marked : (b ≡ 92 → ⊥) → marked (inside b) ≡ true → readInner (drop at p) ≡ missing
+  inner-marked n e = rw (h .rest) (go (inside b) (inside-ok b) e)
     where
-      go : (k : Inside) → InsideOk (getD p at 0) k → marked k ≡ true → innerBy k (getD p at 0) (drop (at + 1) p) ≡ missing
+      go : (k : Inside) → InsideOk b k → marked k ≡ true → innerBy k b (drop (at + 1) p) ≡ missing
       go usual o e = let z : _≡_ {A = ℕ} 0 1 = cc in absurd (omega arith)
       go backslash o e = absurd (n o)
       go closing o e = refl
@@ -47,16 +38,21 @@ module _ (p : List ℕ) (at : ℕ) (h : at < length p) where
       go caret o e = refl
       go dash o e = refl
 
-  pub inner-plain : marked (inside (getD p at 0)) ≡ false → InnerFound (readInner (drop at p)) p at (Is (getD p at 0) (at + 1))
-  inner-plain e = (plain (getD p at 0), rw (byte-here p at h) (go (inside (getD p at 0)) e), refl, onward-next p at h)
+  pub inner-plain : marked (inside b) ≡ false → InnerFound (readInner (drop at p)) p at (Is b (at + 1))
+  inner-plain e = (plain b, rw (h .rest) (go (inside b) e), refl, onward-next h)
     where
-      go : (k : Inside) → marked k ≡ false → innerBy k (getD p at 0) (drop (at + 1) p) ≡ found (plain (getD p at 0)) (drop (at + 1) p)
+      go : (k : Inside) → marked k ≡ false → innerBy k b (drop (at + 1) p) ≡ found (plain b) (drop (at + 1) p)
       go usual e = refl
       go backslash e = let z : _≡_ {A = ℕ} 0 1 = cc in absurd (omega arith)
       go closing e = let z : _≡_ {A = ℕ} 0 1 = cc in absurd (omega arith)
       go opening e = let z : _≡_ {A = ℕ} 0 1 = cc in absurd (omega arith)
       go caret e = let z : _≡_ {A = ℕ} 0 1 = cc in absurd (omega arith)
       go dash e = let z : _≡_ {A = ℕ} 0 1 = cc in absurd (omega arith)
+
+pub inner-escape : {p : List ℕ} {at : ℕ} → Here p at 92 → (r : Inner) → InnerFound (readEscaped (drop (at + 1) p)) p (at + 1) r → InnerFound (readInner (drop at p)) p at r
+unfolding inside
+inner-escape h (Is b e) (x, f, v, o) = (x, rw (h .rest) f, v, onward-from (omega arith) o)
+inner-escape h NoByte f = rw (h .rest) f
 
 -- A range.
 pub range-single : (x : Byte) (s : List ℕ) → firstHolds s 45 ≡ false → readRange x s ≡ found (single x) s

@@ -1,17 +1,17 @@
 -- Whether a leaf holds a byte, by the leaf's first byte.
 -- Assumes nothing.
 use mathlib.Core.Path.{_≡_, refl}
-use Prim.Native.Nat.{ℕ, _+_, _<_}
+use Prim.Native.Nat.{ℕ, _+_}
 use mathlib.Core.Bool.{true, false, not}
-use mathlib.Core.List.{List, _∷_}
+use mathlib.Core.List.{List}
 use native.Mathlib.Omega.{arith}
-use lib.ListN.{length, getD, drop}
+use lib.ListN.{drop}
 use lib.Dec.{eqb}
 use Rattle.grammar.specs.Grammar.{Kind, ordinary, backslash, bar, opener, closer, bracket, brace, period, stray, sign, kind, special}
 use Rattle.grammar.specs.Code.Reader.{readClass}
 use Rattle.grammar.specs.Code.Codes.{firstHolds, foundHolds, leafBy, leafHolds}
 use Rattle.grammar.proofs.Texts.{KindOk, kind-ok}
-use Rattle.scanner.proofs.Places.{Here, byte-here}
+use Rattle.scanner.proofs.Places.{Here}
 
 module _ {p : List ℕ} {at : ℕ} (b : ℕ) where
   pub leaf-escaped : Here p at 92 → leafHolds (drop at p) b ≡ firstHolds (drop (at + 1) p) b
@@ -26,12 +26,12 @@ module _ {p : List ℕ} {at : ℕ} (b : ℕ) where
   unfolding leafHolds kind
   leaf-dot h = rw (h .rest) refl
 
-module _ (p : List ℕ) (at b : ℕ) (h : at < length p) where
-  pub leaf-special : (getD p at 0 ≡ 92 → ⊥) → (getD p at 0 ≡ 91 → ⊥) → (getD p at 0 ≡ 46 → ⊥) → special (kind (getD p at 0)) ≡ true → leafHolds (drop at p) b ≡ false
+module _ {p : List ℕ} {at c : ℕ} (b : ℕ) (h : Here p at c) where
+  pub leaf-special : (c ≡ 92 → ⊥) → (c ≡ 91 → ⊥) → (c ≡ 46 → ⊥) → special (kind c) ≡ true → leafHolds (drop at p) b ≡ false
   unfolding leafHolds
-  leaf-special n m d e = rw (byte-here p at h) (go (kind (getD p at 0)) (kind-ok (getD p at 0)) e)
+  leaf-special n m d e = rw (h .rest) (go (kind c) (kind-ok c) e)
     where
-      go : (k : Kind) → KindOk (getD p at 0) k → special k ≡ true → leafBy k (getD p at 0) (drop (at + 1) p) b ≡ false
+      go : (k : Kind) → KindOk c k → special k ≡ true → leafBy k c (drop (at + 1) p) b ≡ false
       go ordinary o e = let z : _≡_ {A = ℕ} 0 1 = cc in absurd (omega arith)
       go backslash o e = absurd (n o)
       go bar o e = refl
@@ -43,11 +43,11 @@ module _ (p : List ℕ) (at b : ℕ) (h : at < length p) where
       go stray o e = refl
       go (sign r) o e = refl
 
-  pub leaf-ordinary : special (kind (getD p at 0)) ≡ false → leafHolds (drop at p) b ≡ eqb b (getD p at 0)
+  pub leaf-ordinary : special (kind c) ≡ false → leafHolds (drop at p) b ≡ eqb b c
   unfolding leafHolds
-  leaf-ordinary e = rw (byte-here p at h) (go (kind (getD p at 0)) e)
+  leaf-ordinary e = rw (h .rest) (go (kind c) e)
     where
-      go : (k : Kind) → special k ≡ false → leafBy k (getD p at 0) (drop (at + 1) p) b ≡ eqb b (getD p at 0)
+      go : (k : Kind) → special k ≡ false → leafBy k c (drop (at + 1) p) b ≡ eqb b c
       go ordinary e = refl
       go backslash e = let z : _≡_ {A = ℕ} 0 1 = cc in absurd (omega arith)
       go bar e = let z : _≡_ {A = ℕ} 0 1 = cc in absurd (omega arith)

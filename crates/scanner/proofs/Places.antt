@@ -1,7 +1,7 @@
 -- The byte at a place of a text, and the places after it.
 -- Assumes nothing.
 use mathlib.Core.Path.{_≡_, refl, sym, _∙_}
-use Prim.Native.Nat.{ℕ, suc, _+_, _≤_, _<_}
+use Prim.Native.Nat.{ℕ, _+_, _≤_, _<_}
 use mathlib.Core.Bool.{Bool, true, false, not}
 use mathlib.Core.List.{List, [], _∷_}
 use native.Mathlib.Omega.{arith}
@@ -14,33 +14,31 @@ use borrow.Author.Tests.{eqb-true, eqb-false, not-true, not-false}
 use Rattle.grammar.specs.Code.Codes.{firstHolds}
 use Rattle.scanner.specs.Scanned.{Onward}
 
-pub byte-here : (p : List ℕ) (at : ℕ) → at < length p → drop at p ≡ getD p at 0 ∷ drop (at + 1) p
-byte-here p at h = rw (add-one at, drop-cons p at 0 h) refl
-
-pub onward-next : (p : List ℕ) (at : ℕ) → at < length p → Onward p at (at + 1)
-onward-next p at h = record { forward = omega arith; inside = omega arith }
-
-pub onward-from : {p : List ℕ} {at mid next : ℕ} → at ≤ mid → Onward p mid next → Onward p at next
-onward-from l o = record { forward = omega arith; inside = o .inside }
-
 -- The byte b stands at the place.
 pub record Here (p : List ℕ) (at b : ℕ) : Type 0 where
   pub inside : at < length p
   pub rest : drop at p ≡ b ∷ drop (at + 1) p
 
-pub here : (p : List ℕ) (at b : ℕ) → at < length p → getD p at 0 ≡ b → Here p at b
-here p at b h e = record { inside = h; rest = rw (← e) (byte-here p at h) }
+pub stands : (p : List ℕ) (at : ℕ) → at < length p → Here p at (getD p at 0)
+stands p at h = record { inside = h; rest = rw (add-one at, drop-cons p at 0 h) refl }
 
 pub first-here : (p : List ℕ) (at b : ℕ) → firstHolds (drop at p) b ≡ true → Here p at b
 first-here p at b e =
     elim (decLt at (length p)) [
-      | yes h ↦ here p at b h (sym (eqb-true b (getD p at 0) (rw (byte-here p at h) at e)))
+      | yes h ↦ rw (eqb-true b (getD p at 0) (rw (stands p at h .rest) at e)) (stands p at h)
       | no h ↦ let z : firstHolds [] b ≡ true = rw (drop-of-length-le p {i = at} (omega arith)) at e in let y : _≡_ {A = ℕ} 0 1 = cc in absurd (omega arith)
     ]
 
 -- Another byte stands first.
 pub first-other : (b c : ℕ) → eqb b c ≡ false → c ≡ b → ⊥
 first-other b c e q = eqb-false b c e (sym q)
+
+-- The places after it.
+pub onward-next : {p : List ℕ} {at b : ℕ} → Here p at b → Onward p at (at + 1)
+onward-next h = record { forward = omega arith; inside = omega (arith, h .inside) }
+
+pub onward-from : {p : List ℕ} {at mid next : ℕ} → at ≤ mid → Onward p mid next → Onward p at next
+onward-from l o = record { forward = omega arith; inside = o .inside }
 
 -- What a test says that a function's answer is: r is the answer, and x what it stands for.
 pub seen : {r x y : Bool} → r ≡ x → r ≡ y → x ≡ y

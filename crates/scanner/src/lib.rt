@@ -2,7 +2,7 @@
 // No function reads past the text, and each has an answer for every place.
 ghost use mathlib.Core.Path.{_≡_};
 ghost use mathlib.Core.Bool.{_||_};
-ghost use Prim.Native.Nat.{ℕ, _<_, _/_, _%_};
+ghost use Prim.Native.Nat.{_<_, _/_, _%_};
 ghost use lib.ListN.{getD, drop};
 ghost use lib.Dec.{eqb};
 ghost use Rattle.grammar.specs.Grammar.{kind, special, inside, marked};
@@ -156,6 +156,7 @@ fn read_escaped(s: &[u8], at: usize) -> Inner
     Inner::NoByte
 }
 
+// A byte of a class: bare, or after a `\`.
 fn read_inner(s: &[u8], at: usize) -> Inner
     ensures { λ r. ⌜ InnerFound (readInner (drop at (now (s .entry)))) (now (s .entry)) at r ⌝ }
 {
@@ -208,7 +209,7 @@ fn named_or(s: &[u8], at: usize, name: &[u8], bit: u8, other: Item) -> Item
     other
 }
 
-// A named set, from after its `[`.
+// A named set, from after its `[`. The names are tried from the last to the first.
 fn read_named(s: &[u8], at: usize) -> Item
     ensures { λ r. ⌜ NamedFound (now (s .entry)) at r ⌝ }
 {
@@ -222,6 +223,7 @@ fn read_named(s: &[u8], at: usize) -> Item
     named_or(s, at, b":alpha:]", 128, item)
 }
 
+// The item of a class at a place.
 pub fn read_item(s: &[u8], at: usize) -> Item
     ensures found { λ r. ⌜ ItemFound (now (s .entry)) at r ⌝ }
 {
@@ -235,18 +237,21 @@ pub fn read_item(s: &[u8], at: usize) -> Item
     read_range(s, next, value)
 }
 
+// A function, so that its caller has no branch.
 fn either(a: bool, b: bool) -> bool
     ensures { λ r. ⌜ r ≡ (a || b) ⌝ }
 {
     if a { true } else { b }
 }
 
+// The named sets that hold b, as bits.
 fn set_bits(b: u8) -> u8
     ensures { λ r. ⌜ r ≡ getD setTable b 0 ⌝ }
 {
     SETS[wide(b)]
 }
 
+// Whether the named set of the bit holds b.
 fn in_set(bit: u8, b: u8) -> bool
     requires { ⌜ 0 < bit ⌝ }
     ensures { λ r. ⌜ r ≡ eqb (getD setTable b 0 / bit % 2) 1 ⌝ }
@@ -324,6 +329,7 @@ fn class_at(s: &[u8], at: usize, b: u8) -> Listed
     }
 }
 
+// The place after a class, from after its `[`. What the class holds does not matter here, so it is asked for any byte.
 pub fn read_class(s: &[u8], at: usize) -> Class
     ensures found { λ r. ⌜ ClassFound (now (s .entry)) at r ⌝ }
 {
@@ -345,6 +351,7 @@ fn class_holds(s: &[u8], at: usize, b: u8) -> bool
     holds
 }
 
+// Whether the leaf at a place holds b: a byte after `\`, a class, `.`, or a byte that is not special. What is no leaf holds nothing.
 pub fn leaf_holds(s: &[u8], at: usize, b: u8) -> bool
     ensures member { λ r. ⌜ r ≡ leafHolds (drop at (now (s .entry))) b ⌝ }
 {
@@ -378,7 +385,7 @@ fn read_digits(s: &[u8], at: usize) -> Number
     if !within(b'0', b'9', b) {
         return Number::NoNumber;
     }
-    let tens = wide(b) - 48;
+    let tens = wide(b - b'0');
     let next = at + 1;
     if s.len() <= next {
         return Number::Value { number: tens, next };
@@ -387,7 +394,7 @@ fn read_digits(s: &[u8], at: usize) -> Number
     if !within(b'0', b'9', c) {
         return Number::Value { number: tens, next };
     }
-    let ones = wide(c) - 48;
+    let ones = wide(c - b'0');
     Number::Value {
         number: 10 * tens + ones,
         next: at + 2,
@@ -434,6 +441,7 @@ fn second(s: &[u8], at: usize, m: usize) -> Count
     }
 }
 
+// A count, from after its `{`.
 pub fn read_count(s: &[u8], at: usize) -> Count
     ensures found { λ r. ⌜ CountFound (now (s .entry)) at r ⌝ }
 {

@@ -18,16 +18,18 @@ has-byte-requires : tie.Need-has-byte-requires
 has-byte-requires c κs = search needs
 
 returns : tie.Need-returns
-returns c = λ d from v f q. q ∙ end-none (atLeast d) (drop (c .before .before .before .args .at) (c .before .before .before .args .s .now)) (unseen (c .before .has-byte .ensures) (c .if1 .taken))
+returns c =
+    λ d from v f q.
+    q ∙ end-none (atLeast d) (drop (c .before .before .before .args .at) (c .before .before .before .args .s .now)) (unseen (c .before .has-byte .ensures) (c .if1 .taken))
 
 returns-2 : tie.Need-returns-2
-returns-2 c = λ d from v f q. q ∙ least-large (c .before .before .before .before .args .m) d v (closed (c .before)) (lt-leb _ _ (c .if2 .taken))
+returns-2 c = λ d from v f q. q ∙ least-large d v (closed (c .before)) (lt-leb _ _ (c .if2 .taken))
 
 add-t6 : tie.Need-add-t6
 add-t6 c = omega (arith, (closed (c .before)) .inside)
 
 returns-3 : tie.Need-returns-3
-returns-3 c = λ d from v f q. least-found (c .before .before .before .before .args .m) d v (closed (c .before)) from (le-leb _ _ (c .if2 .left)) f q
+returns-3 c = λ d from v f q. least-found d v (closed (c .before)) from (le-leb _ _ (c .if2 .left)) f q
 
 pub at-least-spec : {M : Type 1} → statement M
 at-least-spec = tie.close (tie.spec has-byte-requires returns returns-2 add-t6 returns-3)

@@ -7,8 +7,8 @@ use Rattle.scanner.proofs.Classes.{class-bare, class-negated, class-fau
 use Rattle.scanner.proofs.class_at.Statement.{statement}
 use Rattle.scanner.proofs.class_at.Tie as tie
 
-marked : (c : tie.Else1) → Here (c .before .before .before .args .s .now) (c .before .before .before .args .at) 94
-marked c = first-here _ _ 94 (still-seen (c .before .has-byte .ensures) (c .if1 .left))
+caret : (c : tie.Else1) → Here (c .before .before .before .args .s .now) (c .before .before .before .args .at) 94
+caret c = first-here _ _ 94 (still-seen (c .before .has-byte .ensures) (c .if1 .left))
 
 has-byte-requires : tie.Need-has-byte-requires
 has-byte-requires c κs = search needs
@@ -22,7 +22,7 @@ returns c =
     class-bare (a .s .now) (a .at) (a .b) (unseen (c .before .before .has-byte .ensures) (c .before .if1 .taken)) (c .take-all .result) (c .take-all .ensures)
 
 add-take-all : tie.Need-add-take-all
-add-take-all c = omega (arith, (marked c) .inside)
+add-take-all c = omega (arith, (caret c) .inside)
 
 take-all-requires-2 : tie.Need-take-all-requires-2
 take-all-requires-2 c κs = search needs
@@ -34,10 +34,10 @@ enum-told : tie.Need-enum-told
 enum-told c = search needs
 
 returns-2 : tie.Need-returns-2
-returns-2 c = class-fault (c .before .before .before .before .before .before .args .s .now) (c .before .before .before .before .before .before .args .at) (c .before .before .before .before .before .before .args .b) (marked (c .before .before .before)) (rw (c .enum-told .given .1) at (c .before .before .take-all2 .ensures))
+returns-2 c = class-fault (c .before .before .before .before .before .before .args .b) (caret (c .before .before .before)) (rw (c .enum-told .given .1) at (c .before .before .take-all2 .ensures))
 
 returns-3 : tie.Need-returns-3
-returns-3 c = class-negated (c .before .before .before .before .before .before .before .args .s .now) (c .before .before .before .before .before .before .before .args .at) (c .before .before .before .before .before .before .before .args .b) (marked (c .before .before .before .before)) _ _ (rw (c .before .items .given .1) at (c .before .before .before .take-all2 .ensures))
+returns-3 c = class-negated (c .before .before .before .before .before .before .before .args .b) (caret (c .before .before .before .before)) (rw (c .before .items .given .1) at (c .before .before .before .take-all2 .ensures))
 
 pub class-at-spec : {M : Type 1} → statement M
 class-at-spec =

@@ -3,7 +3,7 @@
 use borrow.Author.Needs.{needs}
 use mathlib.Core.Path.{refl}
 use lib.ListN.{drop-of-length-le}
-use Rattle.scanner.proofs.Places.{byte-here}
+use Rattle.scanner.proofs.Places.{stands}
 use Rattle.scanner.proofs.has_byte.Statement.{statement}
 use Rattle.scanner.proofs.has_byte.Tie as tie
 
@@ -14,7 +14,7 @@ shared-slice-read-result : tie.Need-shared-slice-read-result
 shared-slice-read-result c = search needs
 
 returns-2 : tie.Need-returns-2
-returns-2 c = let a = c .before .before .args in rw (byte-here (a .s .now) (a .at) (c .before .if1 .left)) refl
+returns-2 c = rw (stands (c .before .before .args .s .now) (c .before .before .args .at) (c .before .if1 .left) .rest) refl
 
 pub has-byte-spec : {M : Type 1} → statement M
 has-byte-spec = tie.close (tie.spec returns shared-slice-read-result returns-2)

@@ -12,7 +12,9 @@ use Rattle.scanner.proofs.is_special.Statement.{statement}
 use Rattle.scanner.proofs.is_special.Tie as tie
 
 alone : (c : tie.Else3) → special (kind (c .before .before .before .before .before .before .args .b)) ≡ (eqb (c .before .before .before .before .before .before .args .b) 36 || (eqb (c .before .before .before .before .before .before .args .b) 46 || eqb (c .before .before .before .before .before .before .args .b) 63))
-alone c = rw (special-byte (c .before .before .before .before .before .before .args .b) (search needs), seen (c .before .before .before .before .before .within .ensures) (c .before .before .before .before .if1 .left), seen (c .before .before .before .within2 .ensures) (c .before .before .if2 .left), seen (c .before .within3 .ensures) (c .if3 .left)) refl
+alone c =
+    rw (special-byte (c .before .before .before .before .before .before .args .b) (search needs), seen (c .before .before .before .before .before .within .ensures) (c .before .before .before .before .if1 .left), seen (c .before .before .before .within2 .ensures) (c .before .before .if2 .left), seen (c .before .within3 .ensures) (c .if3 .left))
+    refl
 
 within-requires : tie.Need-within-requires
 within-requires c κs = search needs
@@ -30,7 +32,9 @@ within-requires-3 : tie.Need-within-requires-3
 within-requires-3 c κs = search needs
 
 returns-3 : tie.Need-returns-3
-returns-3 c = rw (special-byte (c .before .before .before .before .before .before .args .b) (search needs), seen (c .before .before .before .before .before .within .ensures) (c .before .before .before .before .if1 .left), seen (c .before .before .before .within2 .ensures) (c .before .before .if2 .left), seen (c .before .within3 .ensures) (c .if3 .taken)) refl
+returns-3 c =
+    rw (special-byte (c .before .before .before .before .before .before .args .b) (search needs), seen (c .before .before .before .before .before .within .ensures) (c .before .before .before .before .if1 .left), seen (c .before .before .before .within2 .ensures) (c .before .before .if2 .left), seen (c .before .within3 .ensures) (c .if3 .taken))
+    refl
 
 returns-4 : tie.Need-returns-4
 returns-4 c = rw (alone (c .before), eq-eqb _ _ (c .if4 .taken)) refl

@@ -2,12 +2,15 @@
 -- Assumes nothing.
 use borrow.Author.Needs.{needs}
 use mathlib.Core.Path.{refl, sym, _∙_}
-use lib.ListN.{drop-of-length-le}
+use lib.ListN.{getD, drop-of-length-le}
 use Rattle.grammar.specs.Code.Codes.{leafHolds}
-use Rattle.scanner.proofs.Places.{here, seen}
+use Rattle.scanner.proofs.Places.{Here, stands, seen}
 use Rattle.scanner.proofs.Leaves.{leaf-escaped, leaf-class, leaf-dot, leaf-special, leaf-ordinary}
 use Rattle.scanner.proofs.leaf_holds.Statement.{statement}
 use Rattle.scanner.proofs.leaf_holds.Tie as tie
+
+stood : (c : tie.Else1) → Here (c .before .before .args .s .now) (c .before .before .args .at) (getD (c .before .before .args .s .now) (c .before .before .args .at) 0)
+stood c = stands _ _ (c .if1 .left)
 
 returns : tie.Need-returns
 unfolding leafHolds
@@ -23,7 +26,7 @@ has-byte-requires : tie.Need-has-byte-requires
 has-byte-requires c κs = search needs
 
 returns-2 : tie.Need-returns-2
-returns-2 c = c .has-byte .ensures ∙ sym (leaf-escaped (c .before .before .before .before .before .args .b) (here (c .before .before .before .before .before .args .s .now) (c .before .before .before .before .before .args .at) 92 (c .before .before .before .if1 .left) (c .before .if2 .taken)))
+returns-2 c = c .has-byte .ensures ∙ sym (leaf-escaped (c .before .before .before .before .before .args .b) (rw (c .before .if2 .taken) at (stood (c .before .before .before))))
 
 add-class-holds : tie.Need-add-class-holds
 add-class-holds c = search needs
@@ -32,21 +35,21 @@ class-holds-requires : tie.Need-class-holds-requires
 class-holds-requires c κs = search needs
 
 returns-3 : tie.Need-returns-3
-returns-3 c = c .class-holds .ensures ∙ sym (leaf-class (c .before .before .before .before .before .before .args .b) (here (c .before .before .before .before .before .before .args .s .now) (c .before .before .before .before .before .before .args .at) 91 (c .before .before .before .before .if1 .left) (c .before .if3 .taken)))
+returns-3 c = c .class-holds .ensures ∙ sym (leaf-class (c .before .before .before .before .before .before .args .b) (rw (c .before .if3 .taken) at (stood (c .before .before .before .before))))
 
 returns-4 : tie.Need-returns-4
-returns-4 c = sym (leaf-dot (c .before .before .before .before .before .before .args .b) (here (c .before .before .before .before .before .before .args .s .now) (c .before .before .before .before .before .before .args .at) 46 (c .before .before .before .before .if1 .left) (c .if4 .taken)))
+returns-4 c = sym (leaf-dot (c .before .before .before .before .before .before .args .b) (rw (c .if4 .taken) at (stood (c .before .before .before .before))))
 
 is-special-requires : tie.Need-is-special-requires
 is-special-requires c κs = search needs
 
 returns-5 : tie.Need-returns-5
 returns-5 c =
-    let a = c .before .before .before .before .before .before .before .before .args in
-    sym (leaf-special (a .s .now) (a .at) (a .b) (c .before .before .before .before .before .before .if1 .left) (c .before .before .before .before .if2 .left) (c .before .before .before .if3 .left) (c .before .before .if4 .left) (seen (c .before .is-special .ensures) (c .if5 .taken)))
+    sym (leaf-special (c .before .before .before .before .before .before .before .before .args .b) (stood (c .before .before .before .before .before .before)) (c .before .before .before .before .if2 .left) (c .before .before .before .if3 .left) (c .before .before .if4 .left)
+    (seen (c .before .is-special .ensures) (c .if5 .taken)))
 
 returns-6 : tie.Need-returns-6
-returns-6 c = sym (leaf-ordinary (c .before .before .before .before .before .before .before .before .args .s .now) (c .before .before .before .before .before .before .before .before .args .at) (c .before .before .before .before .before .before .before .before .args .b) (c .before .before .before .before .before .before .if1 .left) (seen (c .before .is-special .ensures) (c .if5 .left)))
+returns-6 c = sym (leaf-ordinary (c .before .before .before .before .before .before .before .before .args .b) (stood (c .before .before .before .before .before .before)) (seen (c .before .is-special .ensures) (c .if5 .left)))
 
 pub leaf-holds-spec : {M : Type 1} → statement M
 leaf-holds-spec =

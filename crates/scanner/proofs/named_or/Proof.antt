@@ -12,7 +12,8 @@ same-at-requires : tie.Need-same-at-requires
 same-at-requires c κs = search needs
 
 add-t8 : tie.Need-add-t8
-add-t8 c = omega (arith, begins-fits (c .before .before .before .before .args .name .now) (c .before .before .before .before .args .s .now) (c .before .before .before .before .args .at) (seen (c .before .same-at .ensures) (c .if1 .taken)))
+add-t8 c =
+    omega (arith, begins-fits (c .before .before .before .before .args .name .now) (c .before .before .before .before .args .s .now) (c .before .before .before .before .args .at) (seen (c .before .same-at .ensures) (c .if1 .taken)))
 
 returns : tie.Need-returns
 returns c = rw (seen (c .before .same-at .ensures) (c .if1 .taken)) refl

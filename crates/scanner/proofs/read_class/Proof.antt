@@ -1,4 +1,4 @@
--- `scanner::read_class` meets its contract: the class is read with a byte that no one asks for.
+-- `scanner::read_class` meets its contract: the class is read, whatever it holds.
 -- Assumes nothing.
 use borrow.Author.Needs.{needs}
 use Rattle.scanner.proofs.Classes.{class-found}
@@ -18,7 +18,7 @@ returns : tie.Need-returns
 returns c = rw (c .enum-told .given .1) at (c .before .before .class-at .ensures)
 
 returns-2 : tie.Need-returns-2
-returns-2 c = class-found (c .before .before .before .before .before .args .s .now) (c .before .before .before .before .before .args .at) 0 _ _ (rw (c .before .class .given .1) at (c .before .before .before .class-at .ensures))
+returns-2 c = class-found 0 (rw (c .before .class .given .1) at (c .before .before .before .class-at .ensures))
 
 pub read-class-spec : {M : Type 1} → statement M
 read-class-spec =

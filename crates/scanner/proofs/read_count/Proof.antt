@@ -44,24 +44,24 @@ second-requires c κs = search needs
 returns-2 : tie.Need-returns-2
 returns-2 c =
     let n = number (c .before .before .before .before) in
-    c .second .ensures (n .0) (c .before .before .before .before .before .before .before .before .args .at) (n .2) (omega (arith, n .3 .forward)) (count-comma (c .before .before .before .before .before .before .before .before .args .s .now) (c .before .before .before .before .before .before .before .before .args .at) _ _ n (comma (c .before)))
+    c .second .ensures (n .0) (c .before .before .before .before .before .before .before .before .args .at) (n .2) (omega (arith, n .3 .forward)) (count-comma n (comma (c .before)))
 
 has-byte-requires-2 : tie.Need-has-byte-requires-2
 has-byte-requires-2 c κs = search needs
 
 returns-3 : tie.Need-returns-3
 returns-3 c =
-    count-open (c .before .before .before .before .before .before .before .before .before .args .s .now) (c .before .before .before .before .before .before .before .before .before .args .at) _ _ (number (c .before .before .before .before .before)) (seen (c .before .before .before .has-byte .ensures) (c .before .before .if1 .left))
+    count-open (number (c .before .before .before .before .before)) (seen (c .before .before .before .has-byte .ensures) (c .before .before .if1 .left))
     (unseen (c .before .has-byte2 .ensures) (c .if2 .taken))
 
 returns-4 : tie.Need-returns-4
-returns-4 c = count-large (c .before .before .before .before .before .before .before .before .before .before .args .s .now) (c .before .before .before .before .before .before .before .before .before .before .args .at) _ _ (number (c .before .before .before .before .before .before)) (closed (c .before)) (lt-leb _ _ (c .if3 .taken))
+returns-4 c = count-large (number (c .before .before .before .before .before .before)) (closed (c .before)) (lt-leb _ _ (c .if3 .taken))
 
 add-t10 : tie.Need-add-t10
 add-t10 c = omega (arith, (closed (c .before)) .inside)
 
 returns-5 : tie.Need-returns-5
-returns-5 c = count-exactly (c .before .before .before .before .before .before .before .before .before .before .args .s .now) (c .before .before .before .before .before .before .before .before .before .before .args .at) _ _ (number (c .before .before .before .before .before .before)) (closed (c .before)) (le-leb _ _ (c .if3 .left))
+returns-5 c = count-exactly (number (c .before .before .before .before .before .before)) (closed (c .before)) (le-leb _ _ (c .if3 .left))
 
 pub read-count-spec : {M : Type 1} → statement M
 read-count-spec =

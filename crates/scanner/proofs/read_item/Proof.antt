@@ -34,15 +34,17 @@ enum-told c = search needs
 
 returns-2 : tie.Need-returns-2
 returns-2 c =
-    item-none (drop (c .before .before .before .before .before .before .args .at) (c .before .before .before .before .before .before .args .s .now)) (seen (c .before .before .before .before .has-byte .ensures) (c .before .before .before .if1 .left)) (rw (c .enum-told .given .1) at (c .before .before .read-inner .ensures))
+    item-none (drop (c .before .before .before .before .before .before .args .at) (c .before .before .before .before .before .before .args .s .now)) (seen (c .before .before .before .before .has-byte .ensures) (c .before .before .before .if1 .left))
+    (rw (c .enum-told .given .1) at (c .before .before .read-inner .ensures))
 
 read-range-requires : tie.Need-read-range-requires
 read-range-requires c κs = search needs
 
 returns-3 : tie.Need-returns-3
 returns-3 c =
+    let a = c .before .before .before .before .before .before .before .before .args in
     let (x, f, v, o) = rw (c .before .before .first .given .1) at (c .before .before .before .before .read-inner .ensures) in
-    c .read-range .ensures x (c .before .before .before .before .before .before .before .before .args .at) v o (item-read (drop (c .before .before .before .before .before .before .before .before .args .at) (c .before .before .before .before .before .before .before .before .args .s .now)) _ _ (seen (c .before .before .before .before .before .before .has-byte .ensures) (c .before .before .before .before .before .if1 .left)) f)
+    c .read-range .ensures x (a .at) v o (item-read (drop (a .at) (a .s .now)) _ _ (seen (c .before .before .before .before .before .before .has-byte .ensures) (c .before .before .before .before .before .if1 .left)) f)
 
 pub read-item-spec : {M : Type 1} → statement M
 read-item-spec =

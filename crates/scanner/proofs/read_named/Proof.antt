@@ -56,8 +56,15 @@ named-or-requires-8 c κs = search needs
 
 returns : tie.Need-returns
 returns c =
-    λ from f q. rw (c .named-or8 .ensures, c .before .before .named-or7 .ensures, c .before .before .before .before .named-or6 .ensures, c .before .before .before .before .before .before .named-or5 .ensures, c .before .before .before .before .before .before .before .before .named-or4 .ensures, c .before .before .before .before .before .before .before .before .before .before .named-or3 .ensures, c .before .before .before .before .before .before .before .before .before .before .before .before .named-or2 .ensures, c .before .before .before .before .before .before .before .before .before .before .before .before .before .before .named-or .ensures)
-    (named-chosen names (c .before .before .before .before .before .before .before .before .before .before .before .before .before .before .before .before .before .args .s .now) (c .before .before .before .before .before .before .before .before .before .before .before .before .before .before .before .before .before .args .at) from f q)
+    let c7 = c .before .before in
+    let c6 = c7 .before .before in
+    let c5 = c6 .before .before in
+    let c4 = c5 .before .before in
+    let c3 = c4 .before .before in
+    let c2 = c3 .before .before in
+    let c1 = c2 .before .before in
+    let a = c1 .before .before .before .args in
+    λ from f q. rw (c .named-or8 .ensures, c7 .named-or7 .ensures, c6 .named-or6 .ensures, c5 .named-or5 .ensures, c4 .named-or4 .ensures, c3 .named-or3 .ensures, c2 .named-or2 .ensures, c1 .named-or .ensures) (named-chosen names (a .s .now) (a .at) from f q)
 
 pub read-named-spec : {M : Type 1} → statement M
 read-named-spec =

@@ -35,10 +35,14 @@ returns-2 : tie.Need-returns-2
 returns-2 c = λ x from v o q. q ∙ range-none x (dashed (c .before .before .before)) (rw (c .enum-told .given .1) at (c .before .before .read-inner .ensures))
 
 returns-3 : tie.Need-returns-3
-returns-3 c = λ x from v o q. range-found from x (dashed (c .before .before .before .before .before)) (rw (c .before .before .last .given .1) at (c .before .before .before .before .read-inner .ensures)) v o (le-leb _ _ (c .if2 .taken)) q
+returns-3 c =
+    λ x from v o q.
+    range-found from x (dashed (c .before .before .before .before .before)) (rw (c .before .before .last .given .1) at (c .before .before .before .before .read-inner .ensures)) v o (le-leb _ _ (c .if2 .taken)) q
 
 returns-4 : tie.Need-returns-4
-returns-4 c = λ x from v o q. q ∙ range-swapped x (dashed (c .before .before .before .before .before)) (rw (c .before .before .last .given .1) at (c .before .before .before .before .read-inner .ensures)) v (lt-leb _ _ (c .if2 .left))
+returns-4 c =
+    λ x from v o q.
+    q ∙ range-swapped x (dashed (c .before .before .before .before .before)) (rw (c .before .before .last .given .1) at (c .before .before .before .before .read-inner .ensures)) v (lt-leb _ _ (c .if2 .left))
 
 pub read-range-spec : {M : Type 1} → statement M
 read-range-spec =

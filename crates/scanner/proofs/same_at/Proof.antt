@@ -47,7 +47,9 @@ loop-again c =
     begins-next (a .name .now) (a .s .now) (l .i) (l .k) (c .before .before .before .loop-test .taken) (still-seen (c .before .has-byte .ensures) (c .if1 .left)) ∙ l .inv
 
 returns-2 : tie.Need-returns-2 Inv-loop μ-loop
-returns-2 c = let a = c .before .before .before .before .args in sym (begins-over (a .name .now) (drop (c .before .loop .k) (a .s .now)) (c .before .loop .i) (c .loop-test .left)) ∙ c .before .loop .inv
+returns-2 c =
+    let a = c .before .before .before .before .args in let l = c .before .loop in
+    sym (begins-over (a .name .now) (drop (l .k) (a .s .now)) (l .i) (c .loop-test .left)) ∙ l .inv
 
 pub same-at-spec : {M : Type 1} → statement M
 same-at-spec =

@@ -33,30 +33,28 @@ at-least-requires c κs = search needs
 returns : tie.Need-returns
 returns c =
     λ d from v f q.
-    c .at-least .ensures d from v f (q ∙ second-none d (drop (c .before .before .before .before .before .args .at) (c .before .before .before .before .before .args .s .now)) (rw (c .before .enum-told .given .1) at (c .before .before .before .read-digits .ensures)))
+    c .at-least .ensures d from v f
+    (q ∙ second-none d (drop (c .before .before .before .before .before .args .at) (c .before .before .before .before .before .args .s .now)) (rw (c .before .enum-told .given .1) at (c .before .before .before .read-digits .ensures)))
 
 has-byte-requires : tie.Need-has-byte-requires
 has-byte-requires c κs = search needs
 
 returns-2 : tie.Need-returns-2
-returns-2 c =
-    λ d from v f q. q ∙ second-open (c .before .before .before .before .before .before .before .args .s .now) (c .before .before .before .before .before .before .before .args .at) (c .before .before .before .before .before .before .before .args .m) _ _ (number (c .before .before .before)) d v (unseen (c .before .has-byte .ensures) (c .if1 .taken))
+returns-2 c = λ d from v f q. q ∙ second-open (number (c .before .before .before)) d v (unseen (c .before .has-byte .ensures) (c .if1 .taken))
 
 returns-3 : tie.Need-returns-3
-returns-3 c =
-    λ d from v f q. q ∙ second-swapped (c .before .before .before .before .before .before .before .before .args .s .now) (c .before .before .before .before .before .before .before .before .args .at) (c .before .before .before .before .before .before .before .before .args .m) _ _ (number (c .before .before .before .before)) d v (closed (c .before)) (lt-leb _ _ (c .if2 .taken))
+returns-3 c = λ d from v f q. q ∙ second-swapped (number (c .before .before .before .before)) d v (closed (c .before)) (lt-leb _ _ (c .if2 .taken))
 
 returns-4 : tie.Need-returns-4
-returns-4 c =
-    λ d from v f q. q ∙ second-large (c .before .before .before .before .before .before .before .before .before .args .s .now) (c .before .before .before .before .before .before .before .before .before .args .at) (c .before .before .before .before .before .before .before .before .before .args .m) _ _ (number (c .before .before .before .before .before)) d v (closed (c .before .before)) (lt-leb _ _ (c .if3 .taken))
+returns-4 c = λ d from v f q. q ∙ second-large (number (c .before .before .before .before .before)) d v (closed (c .before .before)) (lt-leb _ _ (c .if3 .taken))
 
 add-t9 : tie.Need-add-t9
 add-t9 c = omega (arith, (closed (c .before .before)) .inside)
 
 returns-5 : tie.Need-returns-5
 returns-5 c =
-    λ d from v f q. second-found (c .before .before .before .before .before .before .before .before .before .args .s .now) (c .before .before .before .before .before .before .before .before .before .args .at) (c .before .before .before .before .before .before .before .before .before .args .m) _ _ (number (c .before .before .before .before .before)) d v from f (closed (c .before .before))
-    (le-leb _ _ (c .before .if2 .left)) (le-leb _ _ (c .if3 .left)) q
+    λ d from v f q.
+    second-found (number (c .before .before .before .before .before)) d v from f (closed (c .before .before)) (le-leb _ _ (c .before .if2 .left)) (le-leb _ _ (c .if3 .left)) q
 
 pub second-spec : {M : Type 1} → statement M
 second-spec =

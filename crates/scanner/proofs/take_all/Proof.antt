@@ -15,15 +15,17 @@ enum-told : tie.Need-enum-told
 enum-told c = search needs
 
 returns : tie.Need-returns
-returns c = all-fault (c .before .before .before .before .args .s .now) (c .before .before .before .before .args .at) (c .before .before .before .before .args .b) (rw (c .enum-told .given .1) at (c .before .before .take-item .ensures))
+returns c =
+    all-fault (c .before .before .before .before .args .s .now) (c .before .before .before .before .args .at) (c .before .before .before .before .args .b)
+    (rw (c .enum-told .given .1) at (c .before .before .take-item .ensures))
 
 take-items-requires : tie.Need-take-items-requires
 take-items-requires c κs = search needs
 
 returns-2 : tie.Need-returns-2
 returns-2 c =
-    let a = c .before .before .before .before .before .before .args in
-    all-taken (a .s .now) (a .at) (a .b) _ _ (rw (c .before .before .first .given .1) at (c .before .before .before .before .take-item .ensures)) (c .take-items .result) (c .take-items .ensures)
+    all-taken (c .before .before .before .before .before .before .args .b) (rw (c .before .before .first .given .1) at (c .before .before .before .before .take-item .ensures))
+    (c .take-items .result) (c .take-items .ensures)
 
 pub take-all-spec : {M : Type 1} → statement M
 take-all-spec =

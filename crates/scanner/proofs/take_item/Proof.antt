@@ -36,13 +36,19 @@ enum-told : tie.Need-enum-told
 enum-told c = search needs
 
 returns : tie.Need-returns
-returns c = rw (c .either .ensures) (take-single (c .before .before .before .before .before .before .args .b) (c .before .before .before .before .before .before .args .held) (rw (c .before .before .item .given .1) at (c .before .before .before .before .read-item .ensures)))
+returns c =
+    rw (c .either .ensures)
+    (take-single (c .before .before .before .before .before .before .args .b) (c .before .before .before .before .before .before .args .held) (rw (c .before .before .item .given .1) at (c .before .before .before .before .read-item .ensures)))
 
 returns-2 : tie.Need-returns-2
-returns-2 c = rw (c .either2 .ensures, c .before .within .ensures) (take-range (c .before .before .before .before .before .before .before .args .b) (c .before .before .before .before .before .before .before .args .held) (rw (c .before .before .before .item2 .given .1) at (c .before .before .before .before .before .read-item .ensures)))
+returns-2 c =
+    rw (c .either2 .ensures, c .before .within .ensures)
+    (take-range (c .before .before .before .before .before .before .before .args .b) (c .before .before .before .before .before .before .before .args .held) (rw (c .before .before .before .item2 .given .1) at (c .before .before .before .before .before .read-item .ensures)))
 
 returns-3 : tie.Need-returns-3
-returns-3 c = rw (c .either3 .ensures, c .before .in-set .ensures) (take-named (c .before .before .before .before .before .before .before .args .b) (c .before .before .before .before .before .before .before .args .held) (rw (c .before .before .before .item3 .given .1) at (c .before .before .before .before .before .read-item .ensures)))
+returns-3 c =
+    rw (c .either3 .ensures, c .before .in-set .ensures)
+    (take-named (c .before .before .before .before .before .before .before .args .b) (c .before .before .before .before .before .before .before .args .held) (rw (c .before .before .before .item3 .given .1) at (c .before .before .before .before .before .read-item .ensures)))
 
 returns-4 : tie.Need-returns-4
 returns-4 c = rw (c .enum-told .given .1) at (c .before .before .read-item .ensures)

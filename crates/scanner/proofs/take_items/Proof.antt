@@ -4,11 +4,11 @@
 use borrow.Author.Needs.{needs}
 use native.Mathlib.Omega.{arith}
 use Prim.Native.Nat.{_+_, _-_}
-use lib.ListN.{length}
+use lib.ListN.{length, getD}
 use Rattle.scanner.specs.Parts.{ItemsTaken}
 use Rattle.scanner.specs.declared.Listed.{Listed}
 use Rattle.scanner.specs.declared.Listed.the-variants.{Upto, Faulty}
-use Rattle.scanner.proofs.Places.{here}
+use Rattle.scanner.proofs.Places.{Here, stands}
 use Rattle.scanner.proofs.Classes.{items-over, items-closed, items-fault, items-turn}
 use Rattle.scanner.proofs.take_items.Statement.{statement}
 use Rattle.scanner.proofs.take_items.Tie as tie
@@ -18,6 +18,9 @@ Inv-loop s at b held i₀ holds₀ i holds = (r : Listed) → ItemsTaken s i b h
 
 abbrev μ-loop : tie.MeasureT-loop
 μ-loop s at b held i₀ holds₀ i holds = length s - i
+
+stood : (c : tie.In-loop Inv-loop μ-loop) → Here (c .before .before .before .args .s .now) (c .before .loop .i) (getD (c .before .before .before .args .s .now) (c .before .loop .i) 0)
+stood c = stands _ _ (c .loop-test .taken)
 
 loop-holds : tie.Need-loop-holds Inv-loop μ-loop
 loop-holds c = λ r t. t
@@ -30,8 +33,8 @@ add-t14 c = search needs
 
 returns : tie.Need-returns Inv-loop μ-loop
 returns c =
-    let l = c .before .before .before .loop in let s = c .before .before .before .before .before .args .s .now in
-    l .inv (Upto (l .i + 1) (l .holds)) (items-closed s (l .i) (c .before .before .before .before .before .args .b) (l .holds) (here s (l .i) 93 (c .before .before .loop-test .taken) (c .if1 .taken)))
+    let l = c .before .before .before .loop in
+    l .inv (Upto (l .i + 1) (l .holds)) (items-closed (c .before .before .before .before .before .args .b) (l .holds) (rw (c .if1 .taken) at (stood (c .before .before))))
 
 take-item-requires : tie.Need-take-item-requires Inv-loop μ-loop
 take-item-requires c κs = search needs
@@ -44,19 +47,22 @@ enum-told c = search needs
 
 returns-2 : tie.Need-returns-2 Inv-loop μ-loop
 returns-2 c =
-    let l = c .before .before .before .before .before .before .loop in let s = c .before .before .before .before .before .before .before .before .args .s .now in
-    l .inv Faulty (items-fault s (l .i) (c .before .before .before .before .before .before .before .before .args .b) (l .holds) (c .before .before .before .before .before .loop-test .taken) (c .before .before .before .if1 .left) (rw (c .enum-told .given .1) at (c .before .before .take-item .ensures)))
+    let l = c .before .before .before .before .before .before .loop in
+    l .inv Faulty (items-fault (c .before .before .before .before .before .before .before .before .args .b) (l .holds) (stood (c .before .before .before .before .before)) (c .before .before .before .if1 .left) (rw (c .enum-told .given .1) at (c .before .before .take-item .ensures)))
 
 loop-less : tie.Need-loop-less Inv-loop μ-loop
 loop-less c = let o = (rw (c .before .item .given .1) at (c .before .before .before .take-item .ensures)) .3 in omega arith
 
 loop-again : tie.Need-loop-again Inv-loop μ-loop
 loop-again c =
-    let l = c .before .before .before .before .before .before .before .loop in let s = c .before .before .before .before .before .before .before .before .before .args .s .now in
-    λ r t. l .inv r (items-turn s (l .i) (c .before .before .before .before .before .before .before .before .before .args .b) (l .holds) (c .before .before .before .before .before .before .loop-test .taken) (c .before .before .before .before .if1 .left) _ _ (rw (c .before .item .given .1) at (c .before .before .before .take-item .ensures)) r t)
+    let l = c .before .before .before .before .before .before .before .loop in
+    λ r t. l .inv r
+    (items-turn (c .before .before .before .before .before .before .before .before .before .args .b) (l .holds) (stood (c .before .before .before .before .before .before)) (c .before .before .before .before .if1 .left) (rw (c .before .item .given .1) at (c .before .before .before .take-item .ensures)) r t)
 
 returns-3 : tie.Need-returns-3 Inv-loop μ-loop
-returns-3 c = c .before .loop .inv Faulty (items-over (c .before .before .before .args .s .now) (c .before .loop .i) (c .before .before .before .args .b) (c .before .loop .holds) (c .loop-test .left))
+returns-3 c =
+    let a = c .before .before .before .args in let l = c .before .loop in
+    l .inv Faulty (items-over (a .s .now) (l .i) (a .b) (l .holds) (c .loop-test .left))
 
 pub take-items-spec : {M : Type 1} → statement M
 take-items-spec =

@@ -1,0 +1,44 @@
+-- What the layers above use of the reader: its answer is the one of the definition, and an accepted pattern's arrays are the written-out pattern.
+-- Assumes nothing.
+use mathlib.Core.Path.{_≡_, sym, ap, _∙_, subst}
+use Prim.Native.Nat.{ℕ, _≤_}
+use mathlib.Core.List.{List}
+use native.Mathlib.Omega.{arith}
+use Rattle.theory.specs.Pattern.{count, Numbered}
+use Rattle.grammar.specs.Grammar.{Alternation}
+use Rattle.grammar.specs.Limits.{Reads}
+use Rattle.grammar.specs.WriteOut.{writeOut}
+use Rattle.grammar.specs.Refusals.{Fault, Right}
+use Rattle.grammar.specs.Refusals as Due
+use Rattle.grammar.specs.Code.Reader.{read}
+use Rattle.grammar.proofs.Size.{writeOut-numbered, leaves-64}
+use Rattle.grammar.proofs.Unique.{right-unique}
+use Rattle.arrays.specs.Decoded.{decode, blank}
+use Rattle.reader.specs.declared.Answer.the-variants.{Accepted, Refused}
+use Rattle.reader.specs.declared.Reading.{Reading}
+use Rattle.reader.specs.Reading.{Written, accepted, refused, meaning, due, ReadRight}
+
+module _ {p : List ℕ} {r : Reading} (h : ReadRight p r) where
+  -- THE ANSWER AND THE ARRAYS ARE THOSE OF THE DEFINITION: one equation, for every pattern.
+  pub reading-is : meaning (r .answer) (r .pattern) ≡ due (read p)
+  reading-is = h .means ∙ ap due (sym (right-unique p (h .answer) (h .right)))
+
+  -- Accepted: the pattern is in the grammar and within the limits, and the arrays decode to its written-out pattern.
+  pub accepted-reads : r .answer ≡ Accepted → (t : Alternation) × Reads p t × (decode (r .pattern) ≡ writeOut t)
+  accepted-reads e = go (h .answer) (h .right) (ap (λ a. meaning a (r .pattern)) (sym e) ∙ h .means)
+    where
+      go : (a : Due.Answer) → Right p a → accepted (decode (r .pattern)) ≡ due a → (t : Alternation) × Reads p t × (decode (r .pattern) ≡ writeOut t)
+      go (Due.accepted t) w q = (t, w, (cc))
+      go (Due.refused n k) w q = absurd (let z : _≡_ {A = ℕ} 0 1 = cc in omega arith)
+
+  -- Its leaves are numbered from 0, and at most 64.
+  pub accepted-leaves : r .answer ≡ Accepted → Numbered 0 (decode (r .pattern)) × (count (decode (r .pattern)) ≤ 64)
+  accepted-leaves e = let (t, w, q) = accepted-reads e in rw q (writeOut-numbered t, leaves-64 p t w)
+
+  -- Refused: with the number and place of its fault.
+  pub refused-fault : {n k : ℕ} → r .answer ≡ Refused n k → Fault p n k
+  refused-fault {n} {k} e = go (h .answer) (h .right) (ap (λ a. meaning a (r .pattern)) (sym e) ∙ h .means)
+    where
+      go : (a : Due.Answer) → Right p a → refused n k ≡ due a → Fault p n k
+      go (Due.accepted t) w q = absurd (let z : _≡_ {A = ℕ} 0 1 = cc in omega arith)
+      go (Due.refused m j) w q = let x : m ≡ n = cc in let y : j ≡ k = cc in subst (λ i. Fault p i k) x (subst (Fault p m) y w)
