@@ -2,12 +2,12 @@
 -- Assumes nothing.
 use mathlib.Core.Path.{_≡_, refl}
 use Prim.Native.Nat.{ℕ, suc, _+_, _≤_}
-use mathlib.Core.Bool.{Bool, true, false, cond}
+use mathlib.Core.Bool.{Bool, true, false, cond, true≢false}
 use mathlib.Core.List.{List, [], _∷_}
 use native.Mathlib.Omega.{arith}
 use lib.ListN.{length}
 use lib.Dec.{T, eqb, eqb→eq}
-use Rattle.grammar.specs.Grammar.{Byte, plain, escaped, alpha, digit, alnum, upper, lower, xdigit, space, punct, Item, single, range, named, Digits, one, two, Repeat, once, many, more, maybe, exactly, atLeast, between, Kind, ordinary, backslash, bar, opener, closer, bracket, brace, period, stray, sign, kind, Inside, usual, closing, opening, caret, dash, inside, byteText, itemText, itemsText, digitsText, repeatText, WfRepeat}
+use Rattle.grammar.specs.Grammar.{Byte, plain, escaped, alpha, digit, alnum, upper, lower, xdigit, space, punct, Item, single, range, named, Digits, one, two, Repeat, once, many, more, maybe, exactly, atLeast, between, Kind, ordinary, backslash, bar, opener, closer, bracket, brace, period, stray, sign, kind, special, Inside, usual, closing, opening, caret, dash, inside, byteText, itemText, itemsText, digitsText, repeatText, WfRepeat}
 use Rattle.grammar.specs.Before.{isOnce}
 
 true-T : (c : Bool) → c ≡ true → T c
@@ -50,6 +50,19 @@ kind-ok b =
     (pick (KindOk b) b 125 stray _ (λ e. tt)
     (pick (KindOk b) b 94 stray _ (λ e. tt)
     (pick (KindOk b) b 36 stray ordinary (λ e. tt) tt)))))))))))))
+
+-- What is not special is ordinary.
+pub ordinary-kind : (k : Kind) → special k ≡ false → k ≡ ordinary
+ordinary-kind ordinary e = refl
+ordinary-kind backslash e = absurd (true≢false e)
+ordinary-kind bar e = absurd (true≢false e)
+ordinary-kind opener e = absurd (true≢false e)
+ordinary-kind closer e = absurd (true≢false e)
+ordinary-kind bracket e = absurd (true≢false e)
+ordinary-kind brace e = absurd (true≢false e)
+ordinary-kind period e = absurd (true≢false e)
+ordinary-kind stray e = absurd (true≢false e)
+ordinary-kind (sign r) e = absurd (true≢false e)
 
 abbrev pub InsideOk : ℕ → Inside → Type 0
 InsideOk b usual = Unit {0}

@@ -13,7 +13,7 @@ use Rattle.grammar.specs.Grammar.{Repeat, once, many, more, maybe, exactly, atL
 use Rattle.grammar.specs.Before.{Before, start, barred, opened, after, text, isOnce, ready, WfBefore}
 use Rattle.grammar.specs.Refusals.{Wrong, bare, unreadySign, unreadyCount, escapeLast, escapeOrdinary, noClass, noCount, tooDeep, leftOpen, Fault, wrong}
 use Rattle.grammar.specs.Code.Reader.{missing, readClass, readCount}
-use Rattle.grammar.proofs.Texts.{KindOk, kind-ok}
+use Rattle.grammar.proofs.Texts.{KindOk, kind-ok, ordinary-kind}
 use Rattle.grammar.proofs.Sound.{opens-max, no-class, no-count}
 use Rattle.grammar.proofs.Unique.{afterSequence, afterAlternation, opens-sequence, text-sequence, text-alternation}
 use Rattle.grammar.proofs.Place.{text-length, sequence-formed, alternation-formed, opens-alternation}
@@ -106,19 +106,7 @@ begun-start p h = record { begin = record { short = h; inside = omega arith; o =
 
 -- What a byte is.
 pub ordinary-of : (b : ℕ) → false ≡ isSpecial b → kind b ≡ ordinary
-ordinary-of b e = go (kind b) e
-  where
-    go : (k : Kind) → false ≡ special k → k ≡ ordinary
-    go ordinary e = refl
-    go backslash e = let z : _≡_ {A = ℕ} 0 1 = cc in absurd (omega arith)
-    go bar e = let z : _≡_ {A = ℕ} 0 1 = cc in absurd (omega arith)
-    go opener e = let z : _≡_ {A = ℕ} 0 1 = cc in absurd (omega arith)
-    go closer e = let z : _≡_ {A = ℕ} 0 1 = cc in absurd (omega arith)
-    go bracket e = let z : _≡_ {A = ℕ} 0 1 = cc in absurd (omega arith)
-    go brace e = let z : _≡_ {A = ℕ} 0 1 = cc in absurd (omega arith)
-    go period e = let z : _≡_ {A = ℕ} 0 1 = cc in absurd (omega arith)
-    go stray e = let z : _≡_ {A = ℕ} 0 1 = cc in absurd (omega arith)
-    go (sign r) e = let z : _≡_ {A = ℕ} 0 1 = cc in absurd (omega arith)
+ordinary-of b e = ordinary-kind (kind b) (sym e)
 
 sign-not : (b : ℕ) → b ≢ 42 → b ≢ 43 → b ≢ 63 → b ≢ 123 → (r : Repeat) → isOnce r ≡ false → ((s : List ℕ) → repeatText r s ≡ b ∷ s) → ⊥
 sign-not b x y z w once e h = let q : _≡_ {A = ℕ} 0 1 = cc in omega arith

@@ -146,7 +146,8 @@ fn repeat(s: &[u8], at: usize, weight: usize, a: &mut [u16; 2303], len: usize, f
         let n = tokens::between(a, len, from, 0, 1);
         return found(at + 1, weight, n);
     }
-    if b == b'{' {
+    // an opening brace
+    if b == 123 {
         return counted(s, at, weight, a, len, from);
     }
     found(at, weight, len)

@@ -10,7 +10,7 @@ use lib.Dec.{eqb}
 use Rattle.grammar.specs.Grammar.{Kind, ordinary, backslash, bar, opener, closer, bracket, brace, period, stray, sign, kind, special}
 use Rattle.grammar.specs.Code.Reader.{readClass}
 use Rattle.grammar.specs.Code.Codes.{firstHolds, foundHolds, leafBy, leafHolds}
-use Rattle.grammar.proofs.Texts.{KindOk, kind-ok}
+use Rattle.grammar.proofs.Texts.{KindOk, kind-ok, ordinary-kind}
 use Rattle.scanner.proofs.Places.{Here}
 
 module _ {p : List ℕ} {at : ℕ} (b : ℕ) where
@@ -45,16 +45,4 @@ module _ {p : List ℕ} {at c : ℕ} (b : ℕ) (h : Here p at c) where
 
   pub leaf-ordinary : special (kind c) ≡ false → leafHolds (drop at p) b ≡ eqb b c
   unfolding leafHolds
-  leaf-ordinary e = rw (h .rest) (go (kind c) e)
-    where
-      go : (k : Kind) → special k ≡ false → leafBy k c (drop (at + 1) p) b ≡ eqb b c
-      go ordinary e = refl
-      go backslash e = let z : _≡_ {A = ℕ} 0 1 = cc in absurd (omega arith)
-      go bar e = let z : _≡_ {A = ℕ} 0 1 = cc in absurd (omega arith)
-      go opener e = let z : _≡_ {A = ℕ} 0 1 = cc in absurd (omega arith)
-      go closer e = let z : _≡_ {A = ℕ} 0 1 = cc in absurd (omega arith)
-      go bracket e = let z : _≡_ {A = ℕ} 0 1 = cc in absurd (omega arith)
-      go brace e = let z : _≡_ {A = ℕ} 0 1 = cc in absurd (omega arith)
-      go period e = let z : _≡_ {A = ℕ} 0 1 = cc in absurd (omega arith)
-      go stray e = let z : _≡_ {A = ℕ} 0 1 = cc in absurd (omega arith)
-      go (sign r) e = let z : _≡_ {A = ℕ} 0 1 = cc in absurd (omega arith)
+  leaf-ordinary e = rw (h .rest, ordinary-kind (kind c) e) refl
