@@ -119,4 +119,5 @@ finished s codes places kinds sizes masks len n leaves e numbered sized masked r
       decodes = arrays-right s (take n codes) places kinds sizes masks n leaves long numbered sized masked r (rw same at is) room;
       parts = parts ∙ sym (number-nodes 0 r);
       leaves = counted ∙ sym (number-count 0 r);
+      spare = λ b p h l. masked b p h ∙ ap (λ t. t && leafHolds (drop (getD places p 0) s) b) (le-ltb p leaves l);
     }

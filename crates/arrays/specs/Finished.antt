@@ -1,19 +1,22 @@
--- The arrays of a list of codes, as the code makes them: leaves numbered from 0, the size of the part that ends at each place, and the mask of each byte.
+-- What the arrays that are made of codes hold: the pattern whose codes they are, its leaves numbered from 0.
 -- Assumes nothing.
 use mathlib.Core.Path.{_≡_}
-use Prim.Native.Nat.{ℕ, zero, suc, _≤_}
+use Prim.Native.Nat.{ℕ, _≤_, _<_}
+use mathlib.Core.Bool.{false}
 use mathlib.Core.List.{List, map}
+use lib.ListN.{getD}
 use Rattle.theory.specs.Pattern.{Re, count, number}
 use Rattle.grammar.specs.Code.Tokens.{nodes, tokens}
 use Rattle.grammar.specs.Code.Codes.{tokenOf}
 use Rattle.arrays.specs.declared.Pattern.{Pattern}
-use Rattle.arrays.specs.Decoded.{decode}
+use Rattle.arrays.specs.Decoded.{hasBit, decode}
 
--- The arrays x are the pattern r: they decode to it, with a place for each of its parts, and its leaves counted.
+-- The arrays x are the pattern r: they decode to it, with a place for each of its parts, its leaves counted, and no bit of a mask for any other leaf.
 pub record Holds (x : Pattern) (r : Re) : Type 0 where
   pub decodes : decode x ≡ r
   pub parts : x .len ≡ nodes r
   pub leaves : x .leaves ≡ count r
+  pub spare : (b p : ℕ) → b < 256 → x .leaves ≤ p → hasBit (getD (x .masks) b 0) p ≡ false
 
 -- The codes l of the pattern p made into the arrays x: where they are the tokens of a pattern r of at most 64 leaves, x is r with its leaves numbered.
 abbrev pub Finished : List ℕ → List ℕ → Pattern → Type 0

@@ -296,7 +296,7 @@ fn atom(s: &[u8], at: usize, depth: usize, a: &mut [u16; 2303], len: usize) -> S
     if b != b'(' {
         return leaf(s, at, depth, a, len);
     }
-    if depth == 16 {
+    if depth == Pattern::MAX_DEPTH {
         return refused(7, at, len);
     }
     let inner = alternation(s, at + 1, depth + 1, a, len);
