@@ -1,4 +1,4 @@
--- The greedy and the POSIX span are the paper's denotations.
+-- The greedy and the POSIX span are source 000's denotations (its Definition 4).
 -- Assumes nothing.
 use mathlib.Core.Path.{_≡_, refl, sym, _∙_, subst}
 use mathlib.Core.Logic.{inl, inr, _≢_, _↔_}
@@ -91,7 +91,7 @@ module _ (M : ℕ → ℕ → Type 0) (Less : ℕ → ℕ → ℕ → Type 0) (o
       either (λ (e, f). cc) (λ l. either (λ (e, f). cc) (λ m. absurd (not-both i j i′ j′ l m)) (b .1 i j (a .0))) (a .1 i′ j′ (b .0))
 
 module _ (r : Re) (w : List ℕ) where
-  -- s is the paper's denotation just if it is the span.
+  -- s is source 000's denotation just if it is the span.
   pub greedy-denotation : (s : Span) → Denotes (MatchSet w r) (Greedy w r) s ↔ (s ≡ greedy r w)
   greedy-denotation s = (
     λ a. one-location (MatchSet w r) (Prefer w r) (asym w r) s (greedy r w) a (greedy-denoted r w),
@@ -118,7 +118,7 @@ robust n r = (
   λ h w b s t p q. (greedy-denotation r w s) .0 p ∙ h w b ∙ sym ((posix-denotation r w t) .0 q),
 )
 
--- What the search says of a pattern, in the paper's words.
+-- What the search says of a pattern, in source 000's words.
 module _ (r : Re) (d : Numbered 0 r) where
   pub alike-robust : {L : List (List ℕ)} → Alike r L → Robust 256 r
   alike-robust a = robust 256 r .1 (alike-right r d a)

@@ -1,4 +1,4 @@
--- The document's rules, as equations of `outcomes`. Only the one of the star needs a proof: the number in `starOutcomes` does not matter once it is large enough.
+-- Paper 01's rules for each part, as equations of `outcomes`. Only the one of the star needs a proof: the number in `starOutcomes` does not matter once it is large enough.
 -- Assumes nothing.
 use mathlib.Core.Path.{_≡_, refl, ap}
 use Prim.Native.Nat.{ℕ, zero, suc, _-_, _≤_, _<_, max}

@@ -1,4 +1,4 @@
--- The paper's examples 2 and 3: the ends from each place, in the order of preference.
+-- Source 000's examples 2 and 3: the ends from each place, in the order of preference.
 -- Assumes nothing.
 use mathlib.Core.Path.{_≡_, refl}
 use Prim.Native.Nat.{ℕ, suc}

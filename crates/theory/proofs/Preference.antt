@@ -1,4 +1,4 @@
--- The ends of a part's list are in the paper's order of preference.
+-- The ends of a part's list are in source 000's order of preference.
 -- Assumes nothing.
 use mathlib.Core.Path.{_≡_, refl, sym, ap, subst, subst₂}
 use mathlib.Core.Logic.{_⊎_, inl, inr}

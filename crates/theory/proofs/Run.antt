@@ -1,4 +1,4 @@
--- The search as a function: for each pattern and each number of slots there is an outcome. It is here to compute the document's examples.
+-- The search as a function: for each pattern and each number of slots there is an end. With it examples are computed.
 -- Assumes nothing.
 use mathlib.Core.Path.{_≡_, refl, sym, ap, ap₂, _∙_, subst}
 use mathlib.Core.Logic.{_⊎_, inl, inr, _≢_}
