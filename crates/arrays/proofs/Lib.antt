@@ -5,3 +5,5 @@ mod Sizes
 mod Masks
 mod Parts
 mod Right
+-- For the layers above.
+pub mod Laws

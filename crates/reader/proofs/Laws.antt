@@ -1,10 +1,11 @@
 -- What the layers above use of the reader: its answer is the one of the definition, and an accepted pattern's arrays are the written-out pattern.
 -- Assumes nothing.
 use mathlib.Core.Path.{_≡_, sym, ap, _∙_, subst}
-use Prim.Native.Nat.{ℕ, _≤_}
+use Prim.Native.Nat.{ℕ, _≤_, _<_}
 use mathlib.Core.List.{List}
 use native.Mathlib.Omega.{arith}
-use Rattle.theory.specs.Pattern.{count, Numbered}
+use lib.ListN.{getD}
+use Rattle.theory.specs.Pattern.{count, Numbered, has}
 use Rattle.grammar.specs.Grammar.{Alternation}
 use Rattle.grammar.specs.Limits.{Reads}
 use Rattle.grammar.specs.WriteOut.{writeOut}
@@ -13,10 +14,12 @@ use Rattle.grammar.specs.Refusals as Due
 use Rattle.grammar.specs.Code.Reader.{read}
 use Rattle.grammar.proofs.Size.{writeOut-numbered, leaves-64}
 use Rattle.grammar.proofs.Unique.{right-unique}
-use Rattle.arrays.specs.Decoded.{decode, blank}
+use Rattle.arrays.specs.Decoded.{hasBit, decode}
+use Rattle.arrays.specs.Finished.{Holds}
+use Rattle.arrays.proofs.Laws.{masks-hold}
 use Rattle.reader.specs.declared.Answer.the-variants.{Accepted, Refused}
 use Rattle.reader.specs.declared.Reading.{Reading}
-use Rattle.reader.specs.Reading.{Written, accepted, refused, meaning, due, ReadRight}
+use Rattle.reader.specs.Reading.{Written, accepted, refused, meaning, due, Beside, ReadRight}
 
 module _ {p : List ℕ} {r : Reading} (h : ReadRight p r) where
   -- THE ANSWER AND THE ARRAYS ARE THOSE OF THE DEFINITION: one equation, for every pattern.
@@ -34,6 +37,13 @@ module _ {p : List ℕ} {r : Reading} (h : ReadRight p r) where
   -- Its leaves are numbered from 0, and at most 64.
   pub accepted-leaves : r .answer ≡ Accepted → Numbered 0 (decode (r .pattern)) × (count (decode (r .pattern)) ≤ 64)
   accepted-leaves e = let (t, w, q) = accepted-reads e in rw q (writeOut-numbered t, leaves-64 p t w)
+
+  -- Bit p of a byte's mask is whether the set of the leaf p holds the byte, and there is no other bit.
+  pub accepted-masks : r .answer ≡ Accepted → (b p : ℕ) → b < 256 → p < count (decode (r .pattern)) → hasBit (getD (r .pattern .masks) b 0) p ≡ has (decode (r .pattern)) p b
+  accepted-masks e = masks-hold (r .pattern) (accepted-leaves e .0)
+
+  pub accepted-holds : r .answer ≡ Accepted → Holds (r .pattern) (decode (r .pattern))
+  accepted-holds e = subst (λ a. Beside a (r .pattern)) e (h .beside)
 
   -- Refused: with the number and place of its fault.
   pub refused-fault : {n k : ℕ} → r .answer ≡ Refused n k → Fault p n k
