@@ -1,0 +1,202 @@
+-- `follow::after`, which calls itself, meets its contract. The measure is the part's places. Each answer is a law of `Nexts`, by the kind of the part's last place.
+-- Assumes nothing.
+use Rattle.follow.proofs.Scans.{some-place}
+use Rattle.follow.proofs.Parts.{two}
+use Rattle.follow.proofs.Nexts.{after-absent, after-here, after-elsewhere, after-nothing, after-again, after-right, after-left, after-both}
+use native.Mathlib.Omega.{arith}
+use borrow.Author.Needs.{needs}
+use Prim.Native.Nat.{ℕ, _-_, _<_}
+use borrow.Fn.Kinds.{In}
+use borrow.Fn.PlainCycle.{Measures, is, falls, and}
+use Rattle.follow.proofs.+after.{statement}
+use Rattle.follow.proofs.+after.Tie.{close}
+use Rattle.follow.proofs.after.Reads as after
+use Rattle.follow.proofs.after.Kinds as after-kinds
+use Rattle.follow.proofs.+after.Lts-after as after-lts
+use Rattle.follow.proofs.closure.Reads as closure-reads
+use Rattle.follow.proofs.join.Reads as join-reads
+use Rattle.follow.proofs.lacks.Reads as lacks-reads
+use Rattle.follow.proofs.middle.Reads as middle-reads
+use Rattle.follow.proofs.none.Reads as none-reads
+
+abbrev μ-after : Measures 1 after-kinds.ps ℕ
+μ-after κs a = a .1 .1 .1 .0 - a .1 .1 .0
+
+abbrev after-at : ℕ → In 1 after-kinds.ps
+after-at t = and 1 after-kinds.ps (is 1 after-kinds.ps μ-after t) after.Pre
+
+abbrev after-below : ℕ → In 1 after-kinds.ps
+after-below t = and 1 after-kinds.ps (falls 1 after-kinds.ps _<_ μ-after t) after.Pre
+
+abbrev callees-after : ℕ → after-lts.Claims
+callees-after t = (lacks-reads.Asked, lacks-reads.Learnt, join-reads.Asked, join-reads.Learnt, none-reads.Asked, none-reads.Learnt, closure-reads.Asked, closure-reads.Learnt, after-below t, after.Post, middle-reads.Asked, middle-reads.Learnt)
+
+after-add-lacks : (t : ℕ) → after-lts.Need-add-lacks (callees-after t) (after-at t) after.Post
+after-add-lacks t c = search needs
+
+after-lacks-requires : (t : ℕ) → after-lts.Need-lacks-requires (callees-after t) (after-at t) after.Post
+after-lacks-requires t c κs = search needs
+
+after-returns : (t : ℕ) → after-lts.Need-returns (callees-after t) (after-at t) after.Post
+after-returns t c =
+    let s = c .before .before in
+    let a = s .args in
+    after-absent (a .kinds .now) (a .sizes .now) (a .low) (a .end) (a .p) (a .rest) (a .out) (c .before .lacks .ensures .none (c .if1 .taken)) (s .pre .1 .3)
+
+after-sub-last : (t : ℕ) → after-lts.Need-sub-last (callees-after t) (after-at t) after.Post
+after-sub-last t c =
+    let s = c .before .before in
+    let h = some-place (c .before .lacks .ensures) (c .if1 .left) in
+    omega (arith, h)
+
+after-element-copy-out-kind : (t : ℕ) → after-lts.Need-element-copy-out-kind (callees-after t) (after-at t) after.Post
+after-element-copy-out-kind t c =
+    let s = c .before .before in
+    let h = some-place (c .before .lacks .ensures) (c .if1 .left) in
+    omega (arith, h, s .pre .1 .0)
+
+after-add-if2 : (t : ℕ) → after-lts.Need-add-if2 (callees-after t) (after-at t) after.Post
+after-add-if2 t c = search needs
+
+after-join-requires : (t : ℕ) → after-lts.Need-join-requires (callees-after t) (after-at t) after.Post
+after-join-requires t c κs = search needs
+
+after-returns-2 : (t : ℕ) → after-lts.Need-returns-2 (callees-after t) (after-at t) after.Post
+after-returns-2 t c =
+    let s = c .before .before .before .before .before in
+    let h = some-place (c .before .before .before .before .lacks .ensures) (c .before .before .before .if1 .left) in
+    let a = s .args in
+    after-here (a .kinds .now) (a .sizes .now) (a .low) (a .end) (a .p) (a .rest) (a .out) h (c .join .result) (s .pre .1 .1) (c .before .if2 .taken) (c .join .ensures)
+
+after-returns-3 : (t : ℕ) → after-lts.Need-returns-3 (callees-after t) (after-at t) after.Post
+after-returns-3 t c =
+    let s = c .before .before .before .before .before in
+    let h = some-place (c .before .before .before .before .lacks .ensures) (c .before .before .before .if1 .left) in
+    let a = s .args in
+    after-elsewhere (a .kinds .now) (a .sizes .now) (a .low) (a .end) (a .p) (a .rest) (a .out) h (c .if3 .taken) (c .before .if2 .left) (s .pre .1 .3)
+
+after-returns-4 : (t : ℕ) → after-lts.Need-returns-4 (callees-after t) (after-at t) after.Post
+after-returns-4 t c =
+    let s = c .before .before .before .before .before .before in
+    let h = some-place (c .before .before .before .before .before .lacks .ensures) (c .before .before .before .before .if1 .left) in
+    let a = s .args in
+    after-nothing (a .kinds .now) (a .sizes .now) (a .low) (a .end) (a .p) (a .rest) (a .out) h (c .if4 .taken) (s .pre .1 .3)
+
+after-none-requires : (t : ℕ) → after-lts.Need-none-requires (callees-after t) (after-at t) after.Post
+after-none-requires t c κs = search needs
+
+after-closure-requires : (t : ℕ) → after-lts.Need-closure-requires (callees-after t) (after-at t) after.Post
+after-closure-requires t c κs = search needs
+
+after-after-requires : (t : ℕ) → after-lts.Need-after-requires (callees-after t) (after-at t) after.Post
+after-after-requires t c κs =
+    let s = c .before .before .before .before .before .before .before .before .before in
+    let h = some-place (c .before .before .before .before .before .before .before .before .lacks .ensures) (c .before .before .before .before .before .before .before .if1 .left) in
+    (omega (arith, h, s .pre .0), (omega (arith, h, s .pre .1 .0), s .pre .1 .1, c .closure .ensures .good, s .pre .1 .3))
+
+after-returns-5 : (t : ℕ) → after-lts.Need-returns-5 (callees-after t) (after-at t) after.Post
+after-returns-5 t c =
+    let s = c .before .before .before .before .before .before .before .before .before .before in
+    let h = some-place (c .before .before .before .before .before .before .before .before .before .lacks .ensures) (c .before .before .before .before .before .before .before .before .if1 .left) in
+    let a = s .args in
+    after-again (a .kinds .now) (a .sizes .now) (a .low) (a .end) (a .p) (a .rest) (a .out) h (c .before .before .none .result) (c .before .closure .result) (c .after .result) (c .before .before .before .if5 .taken) (c .before .before .none .ensures) (c .before .closure .ensures) (c .after .ensures)
+
+after-middle-requires : (t : ℕ) → after-lts.Need-middle-requires (callees-after t) (after-at t) after.Post
+after-middle-requires t c κs = search needs
+
+after-add-lacks-2 : (t : ℕ) → after-lts.Need-add-lacks-2 (callees-after t) (after-at t) after.Post
+after-add-lacks-2 t c = search needs
+
+after-lacks-requires-2 : (t : ℕ) → after-lts.Need-lacks-requires-2 (callees-after t) (after-at t) after.Post
+after-lacks-requires-2 t c κs =
+    let s = c .before .before .before .before .before .before .before .before .before in
+    let h = some-place (c .before .before .before .before .before .before .before .before .lacks .ensures) (c .before .before .before .before .before .before .before .if1 .left) in
+    omega (arith, h, s .pre .1 .0, c .before .middle .ensures)
+
+after-after-requires-2 : (t : ℕ) → after-lts.Need-after-requires-2 (callees-after t) (after-at t) after.Post
+after-after-requires-2 t c κs =
+    let s = c .before .before .before .before .before .before .before .before .before .before .before in
+    let h = some-place (c .before .before .before .before .before .before .before .before .before .before .lacks .ensures) (c .before .before .before .before .before .before .before .before .before .if1 .left) in
+    (omega (arith, h, s .pre .0, c .before .before .before .middle .ensures), (omega (arith, h, s .pre .1 .0, c .before .before .before .middle .ensures), s .pre .1 .1, s .pre .1 .2, s .pre .1 .3))
+
+after-returns-6 : (t : ℕ) → after-lts.Need-returns-6 (callees-after t) (after-at t) after.Post
+after-returns-6 t c =
+    let s = c .before .before .before .before .before .before .before .before .before .before .before .before in
+    let h = some-place (c .before .before .before .before .before .before .before .before .before .before .before .lacks .ensures) (c .before .before .before .before .before .before .before .before .before .before .if1 .left) in
+    let a = s .args in
+    after-right (a .kinds .now) (a .sizes .now) (a .low) (a .end) (a .p) (a .rest) (a .out) h (c .before .before .before .before .middle .result) (c .before .before .before .before .middle .ensures) (c .after2 .result) (c .before .before .before .if6 .taken) (c .before .before .lacks2 .ensures .none (c .before .if7 .taken)) (c .after2 .ensures)
+
+after-none-requires-2 : (t : ℕ) → after-lts.Need-none-requires-2 (callees-after t) (after-at t) after.Post
+after-none-requires-2 t c κs = search needs
+
+after-closure-requires-2 : (t : ℕ) → after-lts.Need-closure-requires-2 (callees-after t) (after-at t) after.Post
+after-closure-requires-2 t c κs = search needs
+
+after-after-requires-3 : (t : ℕ) → after-lts.Need-after-requires-3 (callees-after t) (after-at t) after.Post
+after-after-requires-3 t c κs =
+    let s = c .before .before .before .before .before .before .before .before .before .before .before .before .before in
+    let h = some-place (c .before .before .before .before .before .before .before .before .before .before .before .before .lacks .ensures) (c .before .before .before .before .before .before .before .before .before .before .before .if1 .left) in
+    (omega (arith, h, s .pre .0, c .before .before .before .before .before .middle .ensures), (omega (arith, h, s .pre .1 .0, c .before .before .before .before .before .middle .ensures), s .pre .1 .1, c .closure2 .ensures .good, s .pre .1 .3))
+
+after-after-requires-4 : (t : ℕ) → after-lts.Need-after-requires-4 (callees-after t) (after-at t) after.Post
+after-after-requires-4 t c κs =
+    let s = c .before .before .before .before .before .before .before .before .before .before .before .before .before .before in
+    let h = some-place (c .before .before .before .before .before .before .before .before .before .before .before .before .before .lacks .ensures) (c .before .before .before .before .before .before .before .before .before .before .before .before .if1 .left) in
+    (omega (arith, h, s .pre .0, c .before .before .before .before .before .before .middle .ensures), (omega (arith, h, s .pre .1 .0, c .before .before .before .before .before .before .middle .ensures), s .pre .1 .1, s .pre .1 .2, c .after3 .ensures .good))
+
+after-returns-7 : (t : ℕ) → after-lts.Need-returns-7 (callees-after t) (after-at t) after.Post
+after-returns-7 t c =
+    let s = c .before .before .before .before .before .before .before .before .before .before .before .before .before .before .before in
+    let h = some-place (c .before .before .before .before .before .before .before .before .before .before .before .before .before .before .lacks .ensures) (c .before .before .before .before .before .before .before .before .before .before .before .before .before .if1 .left) in
+    let a = s .args in
+    after-left (a .kinds .now) (a .sizes .now) (a .low) (a .end) (a .p) (a .rest) (a .out) h (c .before .before .before .before .before .before .before .middle .result) (c .before .before .before .before .before .before .before .middle .ensures) (c .before .before .before .none2 .result) (c .before .before .closure2 .result) (c .before .after3 .result) (c .after4 .result) (c .before .before .before .before .before .before .if6 .taken) (c .before .before .before .none2 .ensures) (c .before .before .closure2 .ensures) (c .before .after3 .ensures) (c .after4 .ensures)
+
+after-after-requires-5 : (t : ℕ) → after-lts.Need-after-requires-5 (callees-after t) (after-at t) after.Post
+after-after-requires-5 t c κs =
+    let s = c .before .before .before .before .before .before .before .before .before in
+    let h = some-place (c .before .before .before .before .before .before .before .before .lacks .ensures) (c .before .before .before .before .before .before .before .if1 .left) in
+    (omega (arith, h, s .pre .0, c .before .middle .ensures), (omega (arith, h, s .pre .1 .0, c .before .middle .ensures), s .pre .1 .1, s .pre .1 .2, s .pre .1 .3))
+
+after-after-requires-6 : (t : ℕ) → after-lts.Need-after-requires-6 (callees-after t) (after-at t) after.Post
+after-after-requires-6 t c κs =
+    let s = c .before .before .before .before .before .before .before .before .before .before in
+    let h = some-place (c .before .before .before .before .before .before .before .before .before .lacks .ensures) (c .before .before .before .before .before .before .before .before .if1 .left) in
+    (omega (arith, h, s .pre .0, c .before .before .middle .ensures), (omega (arith, h, s .pre .1 .0, c .before .before .middle .ensures), s .pre .1 .1, s .pre .1 .2, c .after5 .ensures .good))
+
+after-returns-8 : (t : ℕ) → after-lts.Need-returns-8 (callees-after t) (after-at t) after.Post
+after-returns-8 t c =
+    let s = c .before .before .before .before .before .before .before .before .before .before .before in
+    let h = some-place (c .before .before .before .before .before .before .before .before .before .before .lacks .ensures) (c .before .before .before .before .before .before .before .before .before .if1 .left) in
+    let a = s .args in
+    after-both (a .kinds .now) (a .sizes .now) (a .low) (a .end) (a .p) (a .rest) (a .out) h (c .before .before .before .middle .result) (c .before .before .before .middle .ensures) (c .before .after5 .result) (c .after6 .result) (two _ (c .before .before .before .before .before .if4 .left) (c .before .before .before .before .if5 .left) (c .before .before .if6 .left) (c .before .before .before .before .before .before .if3 .left)) (c .before .after5 .ensures) (c .after6 .ensures)
+
+pub +after-spec : {M : Type 1} → statement M
++after-spec = close μ-after λ t. after-lts.spec (callees-after t) (after-at t)
+    after.Post
+    (after-add-lacks t)
+    (after-lacks-requires t)
+    (after-returns t)
+    (after-sub-last t)
+    (after-element-copy-out-kind t)
+    (after-add-if2 t)
+    (after-join-requires t)
+    (after-returns-2 t)
+    (after-returns-3 t)
+    (after-returns-4 t)
+    (after-none-requires t)
+    (after-closure-requires t)
+    (after-after-requires t)
+    (after-returns-5 t)
+    (after-middle-requires t)
+    (after-add-lacks-2 t)
+    (after-lacks-requires-2 t)
+    (after-after-requires-2 t)
+    (after-returns-6 t)
+    (after-none-requires-2 t)
+    (after-closure-requires-2 t)
+    (after-after-requires-3 t)
+    (after-after-requires-4 t)
+    (after-returns-7 t)
+    (after-after-requires-5 t)
+    (after-after-requires-6 t)
+    (after-returns-8 t)

@@ -1,0 +1,151 @@
+-- `follow::closure`, which calls itself, meets its contract. The measure is the part's places. Each answer is a law of `Begins`, by the kind of the part's last place.
+-- Assumes nothing.
+use Rattle.follow.proofs.Parts.{two}
+use Rattle.follow.proofs.Begins.{closure-none, closure-empty, closure-beyond, closure-leaf, closure-star, closure-seq, closure-alt}
+use native.Mathlib.Omega.{arith}
+use borrow.Author.Needs.{needs}
+use Prim.Native.Nat.{ℕ, _<_, _-_}
+use borrow.Fn.Kinds.{In}
+use borrow.Fn.PlainCycle.{Measures, is, falls, and}
+use Rattle.follow.proofs.+closure.{statement}
+use Rattle.follow.proofs.+closure.Tie.{close}
+use Rattle.follow.proofs.closure.Reads as closure
+use Rattle.follow.proofs.closure.Kinds as closure-kinds
+use Rattle.follow.proofs.+closure.Lts-closure as closure-lts
+use Rattle.follow.proofs.add.Reads as add-reads
+use Rattle.follow.proofs.join.Reads as join-reads
+use Rattle.follow.proofs.middle.Reads as middle-reads
+use Rattle.follow.proofs.none.Reads as none-reads
+
+abbrev μ-closure : Measures 1 closure-kinds.ps ℕ
+μ-closure κs a = a .1 .1 .1 .0 - a .1 .1 .0
+
+abbrev closure-at : ℕ → In 1 closure-kinds.ps
+closure-at t = and 1 closure-kinds.ps (is 1 closure-kinds.ps μ-closure t) closure.Pre
+
+abbrev closure-below : ℕ → In 1 closure-kinds.ps
+closure-below t = and 1 closure-kinds.ps (falls 1 closure-kinds.ps _<_ μ-closure t) closure.Pre
+
+abbrev callees-closure : ℕ → closure-lts.Claims
+callees-closure t = (join-reads.Asked, join-reads.Learnt, add-reads.Asked, add-reads.Learnt, none-reads.Asked, none-reads.Learnt, closure-below t, closure.Post, middle-reads.Asked, middle-reads.Learnt)
+
+closure-join-requires : (t : ℕ) → closure-lts.Need-join-requires (callees-closure t) (closure-at t) closure.Post
+closure-join-requires t c κs = search needs
+
+closure-returns : (t : ℕ) → closure-lts.Need-returns (callees-closure t) (closure-at t) closure.Post
+closure-returns t c =
+    let s = c .before .before in
+    let a = s .args in
+    closure-none (a .kinds .now) (a .sizes .now) (a .low) (a .end) (a .rest) (a .out) (c .join .result) (c .before .if1 .taken) (c .join .ensures)
+
+closure-sub-last : (t : ℕ) → closure-lts.Need-sub-last (callees-closure t) (closure-at t) closure.Post
+closure-sub-last t c = search needs
+
+closure-element-copy-out-kind : (t : ℕ) → closure-lts.Need-element-copy-out-kind (callees-closure t) (closure-at t) closure.Post
+closure-element-copy-out-kind t c = search needs
+
+closure-join-requires-2 : (t : ℕ) → closure-lts.Need-join-requires-2 (callees-closure t) (closure-at t) closure.Post
+closure-join-requires-2 t c κs = search needs
+
+closure-returns-2 : (t : ℕ) → closure-lts.Need-returns-2 (callees-closure t) (closure-at t) closure.Post
+closure-returns-2 t c =
+    let s = c .before .before .before .before in
+    let a = s .args in
+    closure-empty (a .kinds .now) (a .sizes .now) (a .low) (a .end) (a .rest) (a .out) (c .join2 .result) (omega (arith, c .before .before .before .if1 .left)) (c .before .if2 .taken) (c .join2 .ensures)
+
+closure-join-requires-3 : (t : ℕ) → closure-lts.Need-join-requires-3 (callees-closure t) (closure-at t) closure.Post
+closure-join-requires-3 t c κs = search needs
+
+closure-returns-3 : (t : ℕ) → closure-lts.Need-returns-3 (callees-closure t) (closure-at t) closure.Post
+closure-returns-3 t c =
+    let s = c .before .before .before .before .before in
+    let a = s .args in
+    closure-beyond (a .kinds .now) (a .sizes .now) (a .low) (a .end) (a .rest) (a .out) (c .join3 .result) (omega (arith, c .before .before .before .before .if1 .left)) (c .before .if3 .taken) (c .join3 .ensures)
+
+closure-sub-add : (t : ℕ) → closure-lts.Need-sub-add (callees-closure t) (closure-at t) closure.Post
+closure-sub-add t c = search needs
+
+closure-add-requires : (t : ℕ) → closure-lts.Need-add-requires (callees-closure t) (closure-at t) closure.Post
+closure-add-requires t c κs = search needs
+
+closure-returns-4 : (t : ℕ) → closure-lts.Need-returns-4 (callees-closure t) (closure-at t) closure.Post
+closure-returns-4 t c =
+    let s = c .before .before .before .before .before .before in
+    let a = s .args in
+    closure-leaf (a .kinds .now) (a .sizes .now) (a .low) (a .end) (a .rest) (a .out) (c .add .result) (omega (arith, c .before .before .before .before .before .if1 .left)) (c .before .if4 .taken) (omega (arith, c .before .before .if3 .left)) (c .add .ensures)
+
+closure-none-requires : (t : ℕ) → closure-lts.Need-none-requires (callees-closure t) (closure-at t) closure.Post
+closure-none-requires t c κs = search needs
+
+closure-closure-requires : (t : ℕ) → closure-lts.Need-closure-requires (callees-closure t) (closure-at t) closure.Post
+closure-closure-requires t c κs = search needs
+
+closure-join-requires-4 : (t : ℕ) → closure-lts.Need-join-requires-4 (callees-closure t) (closure-at t) closure.Post
+closure-join-requires-4 t c κs = search needs
+
+closure-returns-5 : (t : ℕ) → closure-lts.Need-returns-5 (callees-closure t) (closure-at t) closure.Post
+closure-returns-5 t c =
+    let s = c .before .before .before .before .before .before .before .before .before in
+    let a = s .args in
+    closure-star (a .kinds .now) (a .sizes .now) (a .low) (a .end) (a .rest) (a .out) (c .join4 .result) (omega (arith, c .before .before .before .before .before .before .before .before .if1 .left)) (c .before .before .before .none .result) (c .before .closure .result) (c .before .before .if5 .taken) (c .before .before .before .none .ensures) (c .before .closure .ensures) (c .join4 .ensures)
+
+closure-middle-requires : (t : ℕ) → closure-lts.Need-middle-requires (callees-closure t) (closure-at t) closure.Post
+closure-middle-requires t c κs = search needs
+
+closure-closure-requires-2 : (t : ℕ) → closure-lts.Need-closure-requires-2 (callees-closure t) (closure-at t) closure.Post
+closure-closure-requires-2 t c κs =
+    let s = c .before .before .before .before .before .before .before .before .before in
+    (omega (arith, s .pre .0, c .before .middle .ensures, c .before .before .before .before .before .before .before .before .if1 .left), (omega (arith, s .pre .1 .0, c .before .middle .ensures), s .pre .1 .1, c .before .before .before .none .ensures .good))
+
+closure-closure-requires-3 : (t : ℕ) → closure-lts.Need-closure-requires-3 (callees-closure t) (closure-at t) closure.Post
+closure-closure-requires-3 t c κs =
+    let s = c .before .before .before .before .before .before .before .before .before .before in
+    (omega (arith, s .pre .0, c .before .before .middle .ensures, c .before .before .before .before .before .before .before .before .before .if1 .left), (omega (arith, s .pre .1 .0, c .before .before .middle .ensures), c .closure2 .ensures .good, s .pre .1 .2))
+
+closure-returns-6 : (t : ℕ) → closure-lts.Need-returns-6 (callees-closure t) (closure-at t) closure.Post
+closure-returns-6 t c =
+    let s = c .before .before .before .before .before .before .before .before .before .before .before in
+    let a = s .args in
+    closure-seq (a .kinds .now) (a .sizes .now) (a .low) (a .end) (a .rest) (a .out) (c .closure3 .result) (omega (arith, c .before .before .before .before .before .before .before .before .before .before .if1 .left)) (c .before .before .before .middle .result) (c .before .before .before .middle .ensures) (c .before .before .before .before .before .none .result) (c .before .closure2 .result) (c .before .before .if6 .taken) (c .before .before .before .before .before .none .ensures) (c .before .closure2 .ensures) (c .closure3 .ensures)
+
+closure-closure-requires-4 : (t : ℕ) → closure-lts.Need-closure-requires-4 (callees-closure t) (closure-at t) closure.Post
+closure-closure-requires-4 t c κs =
+    let s = c .before .before .before .before .before .before .before .before .before in
+    (omega (arith, s .pre .0, c .before .middle .ensures, c .before .before .before .before .before .before .before .before .if1 .left), (omega (arith, s .pre .1 .0, c .before .middle .ensures), s .pre .1 .1, s .pre .1 .2))
+
+closure-closure-requires-5 : (t : ℕ) → closure-lts.Need-closure-requires-5 (callees-closure t) (closure-at t) closure.Post
+closure-closure-requires-5 t c κs =
+    let s = c .before .before .before .before .before .before .before .before .before .before in
+    (omega (arith, s .pre .0, c .before .before .middle .ensures, c .before .before .before .before .before .before .before .before .before .if1 .left), (omega (arith, s .pre .1 .0, c .before .before .middle .ensures), s .pre .1 .1, c .closure4 .ensures .good))
+
+closure-returns-7 : (t : ℕ) → closure-lts.Need-returns-7 (callees-closure t) (closure-at t) closure.Post
+closure-returns-7 t c =
+    let s = c .before .before .before .before .before .before .before .before .before .before .before in
+    let a = s .args in
+    closure-alt (a .kinds .now) (a .sizes .now) (a .low) (a .end) (a .rest) (a .out) (c .closure5 .result) (omega (arith, c .before .before .before .before .before .before .before .before .before .before .if1 .left)) (c .before .before .before .middle .result) (c .before .before .before .middle .ensures) (c .before .closure4 .result) (two _ (c .before .before .before .before .before .before .before .before .if2 .left) (c .before .before .before .before .if5 .left) (c .before .before .if6 .left) (c .before .before .before .before .before .before .if4 .left)) (c .before .closure4 .ensures) (c .closure5 .ensures)
+
+pub +closure-spec : {M : Type 1} → statement M
++closure-spec = close μ-closure λ t. closure-lts.spec (callees-closure t) (closure-at t)
+    closure.Post
+    (closure-join-requires t)
+    (closure-returns t)
+    (closure-sub-last t)
+    (closure-element-copy-out-kind t)
+    (closure-join-requires-2 t)
+    (closure-returns-2 t)
+    (closure-join-requires-3 t)
+    (closure-returns-3 t)
+    (closure-sub-add t)
+    (closure-add-requires t)
+    (closure-returns-4 t)
+    (closure-none-requires t)
+    (closure-closure-requires t)
+    (closure-join-requires-4 t)
+    (closure-returns-5 t)
+    (closure-middle-requires t)
+    (closure-closure-requires-2 t)
+    (closure-closure-requires-3 t)
+    (closure-returns-6 t)
+    (closure-closure-requires-4 t)
+    (closure-closure-requires-5 t)
+    (closure-returns-7 t)

@@ -1,0 +1,16 @@
+-- `follow::places` meets its contract.
+-- Assumes nothing.
+use native.Mathlib.Omega.{arith}
+use borrow.Author.Needs.{needs}
+use borrow.Author.Tests.{le-leb, lt-leb}
+use Rattle.follow.proofs.places.Statement.{statement}
+use Rattle.follow.proofs.places.Tie as tie
+
+returns : tie.Need-returns
+returns c = (search needs, rw (le-leb _ _ (c .if1 .taken)))
+
+returns-2 : tie.Need-returns-2
+returns-2 c = (omega arith, rw (lt-leb _ _ (c .if1 .left)))
+
+pub places-spec : {M : Type 1} → statement M
+places-spec = tie.close (tie.spec returns returns-2)

@@ -1,0 +1,37 @@
+-- A list of outcomes in an array, each once, with its wanted leaves as bits.
+-- Assumes nothing.
+use mathlib.Core.Path.{_≡_}
+use Prim.Native.Nat.{ℕ, suc, _≤_, _<_}
+use mathlib.Core.Bool.{Bool, true, false, _||_}
+use mathlib.Core.List.{List}
+use lib.ListN.{length, take}
+use lib.Dec.{T, eqb}
+use Rattle.theory.specs.Standing.{member, once}
+use Rattle.arrays.specs.Decoded.{hasBit}
+use Rattle.follow.specs.declared.Outcomes.{Outcomes}
+
+-- The numbers of the list.
+abbrev pub listed : Outcomes → List ℕ
+listed x = take (x .len) (x .items)
+
+abbrev pub flag : Bool → ℕ
+flag true = 1
+flag false = 0
+
+-- The list has each number once, none above 64; the bits and the flag are those of its numbers.
+pub record Good (x : Outcomes) : Type 0 where
+  pub long : length (x .items) ≡ 65
+  pub room : x .len ≤ 65
+  pub each : once (listed x) ≡ listed x
+  pub small : (q : ℕ) → T (member q (listed x)) → q ≤ 64
+  pub set : (q : ℕ) → q < 64 → hasBit (x .set) q ≡ member (suc q) (listed x)
+  pub end : x .end ≡ flag (member 0 (listed x))
+
+-- x is the list v.
+pub record Lists (x : Outcomes) (v : List ℕ) : Type 0 where
+  pub good : Good x
+  pub are : listed x ≡ v
+
+-- The set r is x with p.
+abbrev pub With : ℕ → ℕ → ℕ → Type 0
+With x p r = (k : ℕ) → hasBit r k ≡ (hasBit x k || eqb k p)

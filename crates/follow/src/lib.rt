@@ -1,0 +1,352 @@
+// The follow tables of a pattern: what it can begin with and what can follow each leaf, in the order of preference, each outcome once.
+// They are built once for a pattern, by an ordered closure over its parts.
+ghost use mathlib.Core.Path.{_≡_};
+ghost use mathlib.Core.Bool.{false};
+ghost use mathlib.Core.List.{[], _∷_};
+ghost use Prim.Native.Nat.{_+_, _*_, _≤_, _<_};
+ghost use lib.ListN.{length};
+ghost use lib.Seq.{paste};
+ghost use Rattle.theory.specs.Standing.{member, gather};
+ghost use Rattle.arrays.specs.Decoded.{decode, hasBit, middle};
+ghost use Rattle.follow.specs.Rows.{Right};
+ghost use Rattle.follow.specs.Outcomes.{listed, Good, Lists, With};
+ghost use Rattle.follow.specs.Parts.{into, intoAfter, Collects, Lacks};
+ghost use Rattle.follow.specs.Stores.{places, IsRow, tablesOf, Long, Stored, Filled};
+use arrays::Pattern;
+
+// Row 0 is the start's, row p + 1 the leaf p's; row k begins at 65 k.
+pub struct Tables {
+    // the outcomes in order: 0 the end, q + 1 the wanted leaf q
+    pub rows: [u8; 4225],
+    // how many each row has
+    pub lens: [u8; 65],
+    // the wanted leaves of each row, as bits
+    pub sets: [u64; 65],
+    // 1 where the row has the end, else 0
+    pub ends: [u8; 65],
+}
+
+// A list of outcomes, each once: 65 places are enough.
+struct Outcomes {
+    items: [u8; 65],
+    len: usize,
+    // its wanted leaves as bits
+    set: u64,
+    // 1 where it has the end, else 0
+    end: u8,
+}
+
+fn wide(x: u8) -> usize
+    ensures { λ r. ⌜ r ≡ x ⌝ }
+{
+    x as usize
+}
+
+fn widened(x: u16) -> usize
+    ensures { λ r. ⌜ r ≡ x ⌝ }
+{
+    x as usize
+}
+
+fn has(x: u64, p: usize) -> bool
+    requires { ⌜ p < 64 ⌝ }
+    ensures { λ r. ⌜ r ≡ hasBit x p ⌝ }
+{
+    x >> p & 1 == 1
+}
+
+fn with(x: u64, p: usize) -> u64
+    requires { ⌜ p < 64 ⌝ }
+    ensures { λ r. ⌜ With x p r ⌝ }
+{
+    x | 1 << p
+}
+
+fn none() -> Outcomes
+    ensures { λ r. ⌜ Lists r [] ⌝ }
+{
+    Outcomes {
+        items: [0u8; 65],
+        len: 0,
+        set: 0,
+        end: 0,
+    }
+}
+
+fn holds(x: Outcomes, p: u8) -> bool
+    requires { ⌜ (p ≤ 64) × Good x ⌝ }
+    ensures { λ r. ⌜ r ≡ member p (listed x) ⌝ }
+{
+    if p == 0 {
+        return x.end == 1;
+    }
+    has(x.set, wide(p) - 1)
+}
+
+// The list with a number that it does not have.
+fn append(x: Outcomes, p: u8) -> Outcomes
+    requires { ⌜ (p ≤ 64) × Good x × (member p (listed x) ≡ false) ⌝ }
+    ensures { λ r. ⌜ Lists r (gather (listed x) (p ∷ [])) ⌝ }
+{
+    let n = x.len;
+    let mut r = x;
+    r.items[n] = p;
+    r.len = n + 1;
+    if p == 0 {
+        r.end = 1;
+        return r;
+    }
+    r.set = with(x.set, wide(p) - 1);
+    r
+}
+
+fn add(x: Outcomes, p: u8) -> Outcomes
+    requires { ⌜ (p ≤ 64) × Good x ⌝ }
+    ensures { λ r. ⌜ Lists r (gather (listed x) (p ∷ [])) ⌝ }
+{
+    if holds(x, p) {
+        return x;
+    }
+    append(x, p)
+}
+
+fn join(x: Outcomes, y: Outcomes) -> Outcomes
+    requires { ⌜ Good x × Good y ⌝ }
+    ensures { λ r. ⌜ Lists r (gather (listed x) (listed y)) ⌝ }
+{
+    let n = y.len;
+    let mut r = x;
+    let mut i = 0;
+    while i < n {
+        let p = y.items[i];
+        r = add(r, p);
+        i += 1;
+    }
+    r
+}
+
+// The list that is only the end.
+fn ending() -> Outcomes
+    ensures { λ r. ⌜ Lists r (0 ∷ []) ⌝ }
+{
+    add(none(), 0)
+}
+
+// Where the right one of two parts begins, which together stand from low to end.
+fn middle(sizes: &[u16; 2303], low: usize, end: usize) -> usize
+    requires { ⌜ end ≤ 2303 ⌝ }
+    ensures { λ r. ⌜ r ≡ middle (now (sizes .entry)) low end ⌝ }
+{
+    if end <= low {
+        return low;
+    }
+    let size = widened(sizes[end - 1]);
+    if end - low <= size {
+        return low;
+    }
+    end - size
+}
+
+// What the part from low to end can begin with, its end replaced by rest, added to out.
+fn closure<'a>(
+    kinds: &'a [u8; 2303],
+    sizes: &'a [u16; 2303],
+    low: usize,
+    end: usize,
+    rest: Outcomes,
+    out: Outcomes,
+) -> Outcomes
+    requires { ⌜ (end ≤ 2303) × Good rest × Good out ⌝ }
+    ensures { λ r. ⌜ Collects into (now (kinds .entry)) (now (sizes .entry)) low end rest out r ⌝ }
+{
+    if end <= low {
+        return join(out, rest);
+    }
+    let last = end - 1;
+    let kind = kinds[last];
+    if kind == 0 {
+        return join(out, rest);
+    }
+    if 67 < kind {
+        return join(out, rest);
+    }
+    if 3 < kind {
+        return add(out, kind - 3);
+    }
+    let nothing = none();
+    if kind == 3 {
+        // the end of an empty turn is dropped
+        let turns = closure(kinds, sizes, low, last, nothing, out);
+        return join(turns, rest);
+    }
+    let m = middle(sizes, low, last);
+    if kind == 1 {
+        let right = closure(kinds, sizes, m, last, rest, nothing);
+        return closure(kinds, sizes, low, m, right, out);
+    }
+    let left = closure(kinds, sizes, low, m, rest, out);
+    closure(kinds, sizes, m, last, rest, left)
+}
+
+// Whether no place from low to end has that kind: then a part there has no such leaf.
+fn lacks(kinds: &[u8; 2303], low: usize, end: usize, kind: u8) -> bool
+    requires { ⌜ end ≤ 2303 ⌝ }
+    ensures { λ r. ⌜ Lacks (now (kinds .entry)) low end kind r ⌝ }
+{
+    let mut i = low;
+    while i < end {
+        if kinds[i] == kind {
+            return false;
+        }
+        i += 1;
+    }
+    true
+}
+
+// What can follow the leaf p of the part from low to end, the part's end replaced by rest, added to out.
+fn after<'a>(
+    kinds: &'a [u8; 2303],
+    sizes: &'a [u16; 2303],
+    low: usize,
+    end: usize,
+    p: u8,
+    rest: Outcomes,
+    out: Outcomes,
+) -> Outcomes
+    requires { ⌜ (end ≤ 2303) × (p < 64) × Good rest × Good out ⌝ }
+    ensures { λ r. ⌜ Collects (intoAfter p) (now (kinds .entry)) (now (sizes .entry)) low end rest out r ⌝ }
+{
+    if lacks(kinds, low, end, 4 + p) {
+        return out;
+    }
+    let last = end - 1;
+    let kind = kinds[last];
+    if kind == 4 + p {
+        return join(out, rest);
+    }
+    if 3 < kind {
+        return out;
+    }
+    if kind == 0 {
+        return out;
+    }
+    if kind == 3 {
+        let again = closure(kinds, sizes, low, end, rest, none());
+        return after(kinds, sizes, low, last, p, again, out);
+    }
+    let m = middle(sizes, low, last);
+    if kind == 1 {
+        // the right part's list is made only for a leaf of the left one
+        if lacks(kinds, low, m, 4 + p) {
+            return after(kinds, sizes, m, last, p, rest, out);
+        }
+        let right = closure(kinds, sizes, m, last, rest, none());
+        let left = after(kinds, sizes, low, m, p, right, out);
+        return after(kinds, sizes, m, last, p, rest, left);
+    }
+    let left = after(kinds, sizes, low, m, p, rest, out);
+    after(kinds, sizes, m, last, p, rest, left)
+}
+
+// How many places there are: none where the array has fewer.
+fn places(kinds: &[u8; 2303], len: usize) -> usize
+    ensures { λ r. ⌜ (r ≤ 2303) × (r ≡ places (now (kinds .entry)) len) ⌝ }
+{
+    let all = &kinds[..];
+    if len <= all.len() { len } else { 0 }
+}
+
+// Row k: the start's, or that of the leaf k - 1.
+fn row_of<'a>(kinds: &'a [u8; 2303], sizes: &'a [u16; 2303], end: usize, k: u8) -> Outcomes
+    requires { ⌜ (end ≤ 2303) × (k ≤ 64) ⌝ }
+    ensures { λ r. ⌜ IsRow (now (kinds .entry)) (now (sizes .entry)) end k r ⌝ }
+{
+    if k == 0 {
+        return closure(kinds, sizes, 0, end, ending(), none());
+    }
+    after(kinds, sizes, 0, end, k - 1, ending(), none())
+}
+
+fn copy(items: &[u8; 65], n: usize, at: usize, rows: &mut [u8; 4225])
+    requires { ⌜ (n ≤ 65) × (length (now items) ≡ 65) × (at + 65 ≤ 4225) × (length (now rows) ≡ 4225) ⌝ }
+    ensures { λ _. ⌜ now (rows .exit) ≡ paste (now (rows .entry)) at (now (items .entry)) n ⌝ }
+{
+    let mut i = 0;
+    while i < n {
+        let x = items[i];
+        rows[at + i] = x;
+        i += 1;
+    }
+}
+
+fn narrow(n: usize) -> u8
+    requires { ⌜ n ≤ 65 ⌝ }
+    ensures { λ r. ⌜ r ≡ n ⌝ }
+{
+    n as u8
+}
+
+fn store(
+    x: Outcomes,
+    k: usize,
+    rows: &mut [u8; 4225],
+    lens: &mut [u8; 65],
+    sets: &mut [u64; 65],
+    ends: &mut [u8; 65],
+)
+    requires { ⌜ (k < 65) × Good x × Long (tablesOf (now rows) (now lens) (now sets) (now ends)) ⌝ }
+    ensures { λ _. ⌜ Stored k x (tablesOf (now (rows .entry)) (now (lens .entry)) (now (sets .entry)) (now (ends .entry))) (tablesOf (now (rows .exit)) (now (lens .exit)) (now (sets .exit)) (now (ends .exit))) ⌝ }
+{
+    let items = x.items;
+    copy(&items, x.len, 65 * k, rows);
+    lens[k] = narrow(x.len);
+    sets[k] = x.set;
+    ends[k] = x.end;
+}
+
+// Each row in turn.
+fn fill<'a>(
+    kinds: &'a [u8; 2303],
+    sizes: &'a [u16; 2303],
+    end: usize,
+    rows: &mut [u8; 4225],
+    lens: &mut [u8; 65],
+    sets: &mut [u64; 65],
+    ends: &mut [u8; 65],
+)
+    requires { ⌜ (end ≤ 2303) × Long (tablesOf (now rows) (now lens) (now sets) (now ends)) ⌝ }
+    ensures { λ _. ⌜ Filled (now (kinds .entry)) (now (sizes .entry)) end 65 (tablesOf (now (rows .exit)) (now (lens .exit)) (now (sets .exit)) (now (ends .exit))) ⌝ }
+{
+    let mut k = 0u8;
+    while k < 65 {
+        let x = row_of(kinds, sizes, end, k);
+        store(x, wide(k), rows, lens, sets, ends);
+        k += 1;
+    }
+}
+
+// The tables of a pattern. What is no pattern of at most 64 leaves numbered from 0 has tables too.
+pub fn tables_of(x: Pattern) -> Tables
+    ensures right { λ r. ⌜ Right (decode x) r ⌝ }
+{
+    let mut rows = [0u8; 4225];
+    let mut lens = [0u8; 65];
+    let mut sets = [0u64; 65];
+    let mut ends = [0u8; 65];
+    let end = places(&x.kinds, x.len);
+    fill(
+        &x.kinds,
+        &x.sizes,
+        end,
+        &mut rows,
+        &mut lens,
+        &mut sets,
+        &mut ends,
+    );
+    Tables {
+        rows,
+        lens,
+        sets,
+        ends,
+    }
+}

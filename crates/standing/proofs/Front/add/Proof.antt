@@ -1,0 +1,49 @@
+-- `standing::Front::add` meets its contract: a leaf that is there changes nothing, and any other has room.
+-- Assumes nothing.
+use mathlib.Core.Path.{sym, _∙_, ap}
+use mathlib.Core.Bool.{_||_}
+use Rattle.arrays.specs.Decoded.{hasBit}
+use Rattle.standing.proofs.Bits.{shift-bit}
+use Rattle.standing.proofs.Fronts.{read-again, read-room, read-new}
+use borrow.Author.Needs.{needs}
+use Rattle.standing.proofs.Front.add.Statement.{statement}
+use Rattle.standing.proofs.Front.add.Tie as tie
+
+has-requires : tie.Need-has-requires
+has-requires c κs = search needs
+
+returns : tie.Need-returns
+returns c =
+    let a = c .before .before .args in
+    let h = c .before .before .pre in
+    read-again (a .self) (a .p) (h .0) (h .1) (h .2) (sym (c .before .has .ensures) ∙ c .if1 .taken)
+
+shl-union : tie.Need-shl-union
+shl-union c = search needs
+
+union-requires : tie.Need-union-requires
+union-requires c κs = search needs
+
+cast-r : tie.Need-cast-r
+cast-r c = search needs
+
+element-write-r : tie.Need-element-write-r
+element-write-r c =
+    let a = c .before .before .before .args in
+    let h = c .before .before .before .pre in
+    read-room (a .self) (a .p) (h .0) (h .1) (h .2) (sym (c .before .before .has .ensures) ∙ c .before .if1 .left)
+
+add-r : tie.Need-add-r
+add-r c = search needs
+
+returns-2 : tie.Need-returns-2
+returns-2 c =
+    let a = c .before .before .before .args in
+    let h = c .before .before .before .pre in
+    read-new (a .self) (a .p) (h .0) (h .1) (h .2) (sym (c .before .before .has .ensures) ∙ c .before .if1 .left) (c .union .result)
+    (λ q. c .union .ensures .bits q ∙ ap (λ t. hasBit (a .self .seen) q || t) (shift-bit (a .p) q (h .1)))
+
+pub add-spec : {M : Type 1} → statement M
+add-spec =
+    tie.close
+    (tie.spec has-requires returns shl-union union-requires cast-r element-write-r add-r returns-2)

@@ -1,0 +1,148 @@
+-- The outcomes of the theory as numbers: what is read off them, and that a wanted leaf is one of the pattern's.
+-- Assumes nothing.
+use mathlib.Core.Path.{_≡_, refl, sym, ap, _∙_}
+use Prim.Native.Nat.{ℕ, zero, suc, _<_}
+use mathlib.Core.Bool.{Bool, true, false, cond}
+use mathlib.Core.List.{List, [], _∷_, _++_, append-nil, append-assoc}
+use native.Mathlib.Omega.{arith}
+use lib.Dec.{T, eqb, eqb-refl, eqb·suc-suc, eqb·zero-suc, eqb·suc-zero}
+use borrow.Author.Tests.{lt-ltb}
+use Rattle.theory.specs.Pattern.{Re, empty, leaf, seq, alt, star, count, has, Numbered}
+use Rattle.theory.specs.Outcomes.{endsAt, wants}
+use Rattle.theory.specs.Standing.{member, gather, once, fronts, wanted}
+use Rattle.theory.specs.Code.Follow.{Next, start, follow, hasEnd}
+use Rattle.theory.specs.Code.Closure.{items, closure, closureAfter, front, flat, takes}
+use Rattle.theory.proofs.Tests.{or-left, or-right, or-cases, either}
+use Rattle.theory.proofs.Members.{member-append, gather-member}
+use Rattle.theory.proofs.Outcomes.{AllOut, none, end, wish, all-map, all-append, all-replace}
+use Rattle.theory.proofs.Turns.{all-emptyTurn, all-thenLeave}
+use Rattle.theory.proofs.Equations.{Leaf, all-when}
+use Rattle.theory.proofs.Extend.{leaf-range}
+use Rattle.theory.proofs.Step.{wanted-in}
+use Rattle.theory.proofs.Closure.{closure-right, closureAfter-right}
+use Rattle.standing.specs.Reads.{leaves}
+
+-- Every wanted leaf is a leaf of the pattern.
+abbrev Leaves : Re → List Next → Type 0
+Leaves r l = AllOut (λ _. Unit {0}) (Leaf r) l
+
+start-all : (r : Re) → Leaves r (start r)
+unfolding start
+start-all empty = end tt none
+start-all (leaf p s) = wish Leaf.here none
+start-all (seq x y) = all-replace (λ k u. all-map (λ _ v. v) (λ q l. Leaf.seq-right l) (start-all y)) (λ q l. wish (Leaf.seq-left l) none) (start-all x)
+start-all (alt x y) = all-append (all-map (λ _ v. v) (λ q l. Leaf.alt-left l) (start-all x)) (all-map (λ _ v. v) (λ q l. Leaf.alt-right l) (start-all y))
+start-all (star x) = all-thenLeave tt (all-replace (λ k u. all-emptyTurn k tt) (λ q l. wish (Leaf.under l) none) (start-all x)) tt
+
+follow-all : (r : Re) (p : ℕ) → Leaves r (follow r p)
+unfolding follow
+follow-all empty p = none
+follow-all (leaf q s) p = all-when (eqb p q) (λ t. end tt none)
+follow-all (seq x y) p =
+    all-append (all-replace (λ k u. all-map (λ _ v. v) (λ q l. Leaf.seq-right l) (start-all y)) (λ q l. wish (Leaf.seq-left l) none) (follow-all x p))
+    (all-map (λ _ v. v) (λ q l. Leaf.seq-right l) (follow-all y p))
+follow-all (alt x y) p = all-append (all-map (λ _ v. v) (λ q l. Leaf.alt-left l) (follow-all x p)) (all-map (λ _ v. v) (λ q l. Leaf.alt-right l) (follow-all y p))
+follow-all (star x) p = all-replace (λ k u. start-all (star x)) (λ q l. wish (Leaf.under l) none) (follow-all x p)
+
+-- What is read off the numbers.
+pub front-items : (l : List Next) → front (items l) ≡ fronts l
+front-items [] = refl
+front-items (endsAt u ∷ l) = refl
+front-items (wants p ∷ l) = ap (λ x. p ∷ x) (front-items l)
+
+pub end-items : (l : List Next) → member 0 (items l) ≡ hasEnd l
+end-items [] = refl
+end-items (endsAt u ∷ l) = refl
+end-items (wants p ∷ l) = rw (eqb·zero-suc p) (end-items l)
+
+pub wanted-items : (p : ℕ) (l : List Next) → member (suc p) (items l) ≡ member p (wanted l)
+wanted-items p [] = refl
+wanted-items p (endsAt u ∷ l) = rw (eqb·suc-zero p) (wanted-items p l)
+wanted-items p (wants q ∷ l) = rw (eqb·suc-suc p q, wanted-items p l)
+
+-- The numbers of wanted leaves are at most n.
+abbrev pub Within : ℕ → List ℕ → Type 0
+Within n l = (q : ℕ) → T (member (suc q) l) → q < n
+
+module _ (r : Re) (d : Numbered 0 r) where
+  items-within : (l : List Next) → Leaves r l → Within (count r) (once (items l))
+  items-within l h q t =
+      let c = leaf-range 0 d (wanted-in h q (rw (gather-member (suc q) [] (items l), wanted-items q l) at t)) in
+      omega arith
+
+  pub closure-within : Within (count r) (closure r)
+  closure-within = rw (closure-right r) (items-within (start r) (start-all r))
+
+  pub after-within : (p : ℕ) → Within (count r) (closureAfter r p)
+  after-within p = rw (closureAfter-right r p) (items-within (follow r p) (follow-all r p))
+
+  pub flat-within : (b : ℕ) (l : List ℕ) → Within (count r) (flat (takes r b) l)
+  flat-within b [] q t = absurd t
+  flat-within b (p ∷ l) q t =
+      either (go (has r p b)) (flat-within b l q) (or-cases (member (suc q) (takes r b p)) (member (suc q) (flat (takes r b) l)) (rw (member-append (suc q) (takes r b p) (flat (takes r b) l)) at t))
+    where
+      go : (c : Bool) → T (member (suc q) (cond c (closureAfter r p) [])) → q < count r
+      go true i = after-within p q i
+      go false i = absurd i
+
+-- The leaves before the first end.
+pub leaves-front : (l : List ℕ) → Within 64 l → leaves l ≡ front l
+leaves-front [] h = refl
+leaves-front (zero ∷ l) h = refl
+leaves-front (suc p ∷ l) h =
+    rw (lt-ltb p 64 (h p (or-left (eqb (suc p) (suc p)) (member (suc p) l) (eqb-refl (suc p)))), leaves-front l (λ q t. h q (or-right (eqb (suc q) (suc p)) (member (suc q) l) t)))
+
+pub front-member : (q : ℕ) (l : List ℕ) → T (member q (front l)) → T (member (suc q) l)
+front-member q [] t = t
+front-member q (zero ∷ l) t = absurd t
+front-member q (suc p ∷ l) t = rw (eqb·suc-suc q p) (either (or-left (eqb q p) (member (suc q) l)) (λ i. or-right (eqb q p) (member (suc q) l) (front-member q l i)) (or-cases (eqb q p) (member q (front l)) t))
+
+-- Each once, and then the leaves before the first end, is the same as the other way round.
+abbrev up : List ℕ → List ℕ
+up [] = []
+up (p ∷ l) = suc p ∷ up l
+
+front-up : (u v : List ℕ) → front (up u ++ v) ≡ u ++ front v
+front-up [] v = refl
+front-up (p ∷ u) v = ap (λ x. p ∷ x) (front-up u v)
+
+up-append : (u v : List ℕ) → up (u ++ v) ≡ up u ++ up v
+up-append [] v = refl
+up-append (p ∷ u) v = ap (λ x. suc p ∷ x) (up-append u v)
+
+member-up : (p : ℕ) (u : List ℕ) → member (suc p) (up u) ≡ member p u
+member-up p [] = refl
+member-up p (q ∷ u) = rw (eqb·suc-suc p q, member-up p u)
+
+zero-up : (u : List ℕ) → member 0 (up u) ≡ false
+zero-up [] = refl
+zero-up (p ∷ u) = rw (eqb·zero-suc p, zero-up u)
+
+-- `gather` only adds at the end.
+gather-more : (s l : List ℕ) → (v : List ℕ) × (gather s l ≡ s ++ v)
+gather-more s [] = ([], sym (append-nil s))
+gather-more s (p ∷ l) = go (member p s) (gather-more s l) (gather-more (s ++ (p ∷ [])) l)
+  where
+    go : (c : Bool) → (v : List ℕ) × (gather s l ≡ s ++ v) → (v : List ℕ) × (gather (s ++ (p ∷ [])) l ≡ s ++ (p ∷ []) ++ v) → (v : List ℕ) × (gather (cond c s (s ++ (p ∷ []))) l ≡ s ++ v)
+    go true x y = x
+    go false x (v, e) = (p ∷ v, e ∙ append-assoc s (p ∷ []) v)
+
+front-gather : (u l : List ℕ) → front (gather (up u) l) ≡ gather u (front l)
+front-gather u [] = ap (λ x. front x) (sym (append-nil (up u))) ∙ front-up u [] ∙ append-nil u
+front-gather u (zero ∷ l) =
+    let (v, e) = gather-more (up u ++ (0 ∷ [])) l in
+    ap (λ t. front (gather (cond t (up u) (up u ++ (0 ∷ []))) l)) (zero-up u)
+    ∙ ap front (e ∙ append-assoc (up u) (0 ∷ []) v)
+    ∙ front-up u (0 ∷ v)
+    ∙ append-nil u
+front-gather u (suc p ∷ l) =
+    ap (λ t. front (gather (cond t (up u) (up u ++ (suc p ∷ []))) l)) (member-up p u)
+    ∙ go (member p u) (front-gather u l) (rw (up-append u (p ∷ [])) at (front-gather (u ++ (p ∷ [])) l))
+  where
+    go : (c : Bool) → front (gather (up u) l) ≡ gather u (front l) → front (gather (up u ++ (suc p ∷ [])) l) ≡ gather (u ++ (p ∷ [])) (front l)
+        → front (gather (cond c (up u) (up u ++ (suc p ∷ []))) l) ≡ gather (cond c u (u ++ (p ∷ []))) (front l)
+    go true x y = x
+    go false x y = y
+
+pub front-once : (l : List ℕ) → front (once l) ≡ once (front l)
+front-once l = front-gather [] l

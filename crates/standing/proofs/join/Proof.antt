@@ -1,0 +1,54 @@
+-- `standing::join` meets its contract: the row of a leaf that takes the byte, and nothing for any other.
+-- Assumes nothing.
+use mathlib.Core.Path.{sym, _∙_}
+use Rattle.standing.proofs.Sets.{joined-none, joined-row}
+use borrow.Author.Needs.{needs}
+use Rattle.standing.proofs.join.Statement.{statement}
+use Rattle.standing.proofs.join.Tie as tie
+
+takes-requires : tie.Need-takes-requires
+takes-requires c κs = search needs
+
+add-union : tie.Need-add-union
+add-union c = search needs
+
+mul-union : tie.Need-mul-union
+mul-union c = search needs
+
+element-copy-out-union : tie.Need-element-copy-out-union
+element-copy-out-union c = search needs
+
+union-requires : tie.Need-union-requires
+union-requires c κs = search needs
+
+add-or : tie.Need-add-or
+add-or c = search needs
+
+element-copy-out-or : tie.Need-element-copy-out-or
+element-copy-out-or c = search needs
+
+or-requires : tie.Need-or-requires
+or-requires c κs = search needs
+
+returns : tie.Need-returns
+returns c =
+    let a = c .before .before .before .before .before .before .args in
+    joined-row _ _ _ (a .w) (a .p) (c .before .before .union .result) (c .or .result) (sym (c .before .before .before .before .before .takes .ensures) ∙ c .before .before .before .before .if1 .taken) (c .before .before .union .ensures) (c .or .ensures)
+
+returns-2 : tie.Need-returns-2
+returns-2 c = joined-none _ _ _ (c .before .before .args .w) (c .before .before .args .p) (sym (c .before .takes .ensures) ∙ c .if1 .left)
+
+pub join-spec : {M : Type 1} → statement M
+join-spec =
+    tie.close
+    (tie.spec
+    takes-requires
+    add-union
+    mul-union
+    element-copy-out-union
+    union-requires
+    add-or
+    element-copy-out-or
+    or-requires
+    returns
+    returns-2)

@@ -1,0 +1,44 @@
+-- The standing that a `Standing` of the code is, and what its functions need to know of the arrays that are lent.
+-- Assumes nothing.
+use mathlib.Core.Path.{_≡_}
+use Prim.Native.Nat.{ℕ, suc, _≤_, _<_}
+use mathlib.Core.Bool.{true, false}
+use mathlib.Core.List.{List, []}
+use lib.ListN.{length, getD, take, drop}
+use lib.Dec.{T}
+use Rattle.theory.specs.Pattern.{Re, count, has, Numbered}
+use Rattle.theory.specs.Standing.{member, from, filter, standing}
+use Rattle.theory.specs.Standing as Theory
+use Rattle.theory.specs.Code.Next.{next}
+use Rattle.theory.proofs.Members.{Once}
+use Rattle.arrays.specs.Decoded.{hasBit}
+use Rattle.follow.specs.declared.Tables.{Tables}
+use Rattle.follow.specs.Rows.{Follows}
+use Rattle.standing.specs.declared.Standing.{Standing}
+
+-- The standing of a pattern with c leaves: (a) the first n numbers of the list, (c) the leaves whose bit is set.
+abbrev pub means : ℕ → Standing → Theory.Standing
+means c s = record { order = take (s .n) (s .list); first = s .first; all = filter (hasBit (s .all)) (from 0 c); some = s .some }
+
+-- The lent arrays are those of the pattern r: the follow tables, and bit p of the mask of a byte for the leaf p.
+pub record Lent (r : Re) (masks rows lens sets ends : List ℕ) : Type 0 where
+  pub numbered : Numbered 0 r
+  pub most : count r ≤ 64
+  pub follows : Follows r (record { rows = rows; lens = lens; sets = sets; ends = ends })
+  pub masked : (b p : ℕ) → b < 256 → p < count r → hasBit (getD masks b 0) p ≡ has r p b
+  pub spare : (b p : ℕ) → b < 256 → count r ≤ p → hasBit (getD masks b 0) p ≡ false
+
+-- A standing of the pattern r: (a) has leaves of r, each once, and (c) no other.
+pub record Fine (r : Re) (s : Standing) : Type 0 where
+  pub size : s .n ≤ 64
+  pub leaves : (p : ℕ) → T (member p (take (s .n) (s .list))) → p < count r
+  pub once : Once (take (s .n) (s .list))
+  pub set : (p : ℕ) → count r ≤ p → hasBit (s .all) p ≡ false
+
+-- The first standing, for the pattern whose arrays are lent.
+abbrev pub First : List ℕ → List ℕ → List ℕ → List ℕ → List ℕ → Standing → Type 0
+First masks rows lens sets ends s = (r : Re) → Lent r masks rows lens sets ends → Fine r s × (means (count r) s ≡ standing r [])
+
+-- "Each byte carries a standing to the next standing."
+abbrev pub Carried : List ℕ → List ℕ → List ℕ → List ℕ → List ℕ → Standing → ℕ → Standing → Type 0
+Carried masks rows lens sets ends s b s′ = (r : Re) → Lent r masks rows lens sets ends → Fine r s → Fine r s′ × (means (count r) s′ ≡ next r (means (count r) s) b)
