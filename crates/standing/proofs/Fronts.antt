@@ -13,7 +13,7 @@ use lib.Dec.{T, eqb, ltb, eqb→eq, eqb·zero-suc}
 use borrow.Author.Tests.{lt-ltb, le-ltb}
 use Rattle.theory.specs.Standing.{member, gather, from}
 use Rattle.theory.specs.Code.Closure.{flat}
-use Rattle.theory.proofs.Tests.{T-true, not-true, or-cases, or-false, either}
+use Rattle.theory.proofs.Tests.{T-true, not-true, or-cases, or-assoc, or-false, either}
 use Rattle.theory.proofs.Members.{nil, cons, member-append, gather-append, member-from, length-from, once-gather, once-size}
 use Rattle.arrays.specs.Decoded.{hasBit}
 use Rattle.standing.specs.declared.Front.{Front}
@@ -51,7 +51,10 @@ leaves-append [] m = refl
 leaves-append (zero ∷ l) m = refl
 leaves-append (suc p ∷ l) m = rw (eqb·zero-suc p, leaves-append l m) (go (ltb p 64))
   where
-    go : (c : Bool) → cond c (p ∷ (leaves l ++ cond (member 0 l) [] (leaves m))) (leaves l ++ cond (member 0 l) [] (leaves m)) ≡ cond c (p ∷ leaves l) (leaves l) ++ cond (member 0 l) [] (leaves m)
+    k : List ℕ
+    k = cond (member 0 l) [] (leaves m)
+
+    go : (c : Bool) → cond c (p ∷ (leaves l ++ k)) (leaves l ++ k) ≡ cond c (p ∷ leaves l) (leaves l) ++ k
     go true = refl
     go false = refl
 
@@ -59,7 +62,7 @@ pub read-append : (f g h : Front) (l m : List ℕ) → Read f l g → Read g m h
 read-append f g h l m a b = record {
   sound = b .sound;
   order = b .order ∙ rw (a .ended, a .order, leaves-append l m) (go (f .ended) (member 0 l));
-  ended = b .ended ∙ rw (a .ended, member-append 0 l m) (assoc (f .ended) (member 0 l));
+  ended = b .ended ∙ rw (a .ended, member-append 0 l m) (or-assoc (f .ended) (member 0 l) (member 0 m));
 }
   where
     u : List ℕ
@@ -69,10 +72,6 @@ read-append f g h l m a b = record {
     go true d = refl
     go false true = rw (append-nil (leaves l))
     go false false = sym (gather-append u (leaves l) (leaves m))
-
-    assoc : (c d : Bool) → c || d || member 0 m ≡ c || (d || member 0 m)
-    assoc true d = refl
-    assoc false d = refl
 
 -- A loop that reads the rest of a list: what its end gives is what the whole gives.
 abbrev pub Rest : Front → List ℕ → Front → List ℕ → Type 0
@@ -93,10 +92,7 @@ read-end f s e = record { sound = record { long = s .long; size = s .size; marke
 
 pub read-over : (f : Front) (x : ℕ) → Sound f → f .ended ≡ false → 64 < x → Read f (x ∷ []) f
 read-over f zero s e h = absurd (omega arith)
-read-over f (suc p) s e h = record { sound = s; order = rw (e, not-below p (omega arith)); ended = rw (e, eqb·zero-suc p) }
-  where
-    not-below : (p : ℕ) → 64 ≤ p → ltb p 64 ≡ false
-    not-below p h = le-ltb p 64 h
+read-over f (suc p) s e h = record { sound = s; order = rw (e, le-ltb p 64 (omega arith)); ended = rw (e, eqb·zero-suc p) }
 
 module _ (f : Front) (p : ℕ) (s : Sound f) (h : p < 64) (e : f .ended ≡ false) where
   pub read-again : hasBit (f .seen) p ≡ true → Read f (suc p ∷ []) f
@@ -125,7 +121,9 @@ module _ (f : Front) (p : ℕ) (s : Sound f) (h : p < 64) (e : f .ended ≡ fals
             long = simp length-set long;
             size = omega arith;
             marked = λ q. k q ∙ rw (o, member-append q (order f) (p ∷ []), s .marked q, or-false (eqb q p));
-            below = λ q t. either (λ i. s .below q i) (λ i. omega (arith, eqb→eq q p (rw (or-false (eqb q p)) at i))) (or-cases (member q (order f)) (member q (p ∷ [])) (rw (o, member-append q (order f) (p ∷ [])) at t));
+            below = λ q t.
+                either (λ i. s .below q i) (λ i. omega (arith, eqb→eq q p (rw (or-false (eqb q p)) at i)))
+                (or-cases (member q (order f)) (member q (p ∷ [])) (rw (o, member-append q (order f) (p ∷ [])) at t));
             apart = rw o (rw g at (once-gather (order f) (p ∷ []) (s .apart)));
           };
           order = rw (e, lt-ltb p 64 h) (o ∙ sym g);

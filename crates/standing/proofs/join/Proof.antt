@@ -33,7 +33,9 @@ or-requires c κs = search needs
 returns : tie.Need-returns
 returns c =
     let a = c .before .before .before .before .before .before .args in
-    joined-row _ _ _ (a .w) (a .p) (c .before .before .union .result) (c .or .result) (sym (c .before .before .before .before .before .takes .ensures) ∙ c .before .before .before .before .if1 .taken) (c .before .before .union .ensures) (c .or .ensures)
+    let u = c .before .before .union in
+    let taken = sym (c .before .before .before .before .before .takes .ensures) ∙ c .before .before .before .before .if1 .taken in
+    joined-row _ _ _ (a .w) (a .p) (u .result) (c .or .result) taken (u .ensures) (c .or .ensures)
 
 returns-2 : tie.Need-returns-2
 returns-2 c = joined-none _ _ _ (c .before .before .args .w) (c .before .before .args .p) (sym (c .before .takes .ensures) ∙ c .if1 .left)

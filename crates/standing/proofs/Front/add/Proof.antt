@@ -2,6 +2,7 @@
 -- Assumes nothing.
 use mathlib.Core.Path.{sym, _∙_, ap}
 use mathlib.Core.Bool.{_||_}
+use native.Mathlib.Omega.{arith}
 use Rattle.arrays.specs.Decoded.{hasBit}
 use Rattle.standing.proofs.Bits.{shift-bit}
 use Rattle.standing.proofs.Fronts.{read-again, read-room, read-new}
@@ -31,7 +32,8 @@ element-write-r : tie.Need-element-write-r
 element-write-r c =
     let a = c .before .before .before .args in
     let h = c .before .before .before .pre in
-    read-room (a .self) (a .p) (h .0) (h .1) (h .2) (sym (c .before .before .has .ensures) ∙ c .before .if1 .left)
+    let room = read-room (a .self) (a .p) (h .0) (h .1) (h .2) (sym (c .before .before .has .ensures) ∙ c .before .if1 .left) in
+    omega arith
 
 add-r : tie.Need-add-r
 add-r c = search needs

@@ -25,7 +25,9 @@ returns : tie.Need-returns
 returns c = λ r d fine.
     let a = c .before .before .before .before .before .args in
     let e = c .before .before .before .before .wide .ensures .0 in
-    next-right _ _ _ _ _ r d (a .byte) (omega arith) (a .self) fine (c .before .before .front-after .result) (c .before .wants-after .result) (rw e at (c .before .before .front-after .ensures)) (rw e at (c .before .wants-after .ensures))
+    let front = c .before .before .front-after in
+    let wants = c .before .wants-after in
+    next-right _ _ _ _ _ r d (a .byte) (omega arith) (a .self) fine (front .result) (wants .result) (rw e at (front .ensures)) (rw e at (wants .ensures))
 
 pub next-spec : {M : Type 1} → statement M
 next-spec =
