@@ -1,13 +1,13 @@
--- Sets of leaves as numbers: the binary digits of an or and of a power of two.
+-- Sets of leaves as numbers: the binary digits of an or and of a power of two, and that a number of 64 bits has no others. The layers above cite these laws too.
 -- Assumes nothing.
 use mathlib.Core.Path.{_≡_, refl, subst}
 use mathlib.Core.Bool.{Bool, true, false, _&&_, _||_}
-use Prim.Native.Nat.{ℕ, zero, suc, _+_, _-_, _*_, _^_, _/_, _%_, _<_, max}
-use native.Mathlib.Nat.{div-self, div-eq-of-lt, mul-div-right, pow-suc, one-mul, mod-eq-of-lt, mod-lt, zero-div}
+use Prim.Native.Nat.{ℕ, zero, suc, _+_, _-_, _*_, _^_, _/_, _%_, _≤_, _<_, max}
+use native.Mathlib.Nat.{div-self, div-eq-of-lt, mul-div-right, pow-suc, one-mul, mod-eq-of-lt, mod-lt, zero-div, lt-of-lt-of-le}
 use native.Mathlib.Omega.{arith}
 use native.Mathlib.Decide.{decLt}
 use lib.Dec.{eqb}
-use lib.Pow.{pow-pos, pow-lt, pow-add}
+use lib.Pow.{pow-pos, pow-lt, pow-add, pow-mono}
 use lib.Bits.{bitOr, or-step, or-shr}
 use borrow.Author.Tests.{eq-eqb, ne-eqb}
 use Rattle.arrays.specs.Decoded.{hasBit}
@@ -55,6 +55,10 @@ pow-bit p q = go (decLt p q) (decLt q p)
 -- The number with the one bit p, as the code makes it.
 pub shift-bit : (p q : ℕ) → p < 64 → hasBit (1 * 2 ^ p % 18446744073709551616) q ≡ eqb q p
 shift-bit p q h = rw (one-mul (2 ^ p), mod-eq-of-lt {n = 2 ^ p} {m = 2 ^ 64} (pow-lt h)) (pow-bit p q)
+
+-- A number of 64 bits has no others.
+pub no-more : (x q : ℕ) → x < 18446744073709551616 → 64 ≤ q → hasBit x q ≡ false
+no-more x q h k = let e : x / 2 ^ q ≡ 0 = div-eq-of-lt (lt-of-lt-of-le {m = 2 ^ 64} h (pow-mono k)) in rw e
 
 pub or-false : (a : Bool) → (a || false) ≡ a
 or-false true = refl

@@ -1,60 +1,9 @@
--- Sets of leaves as numbers: the binary digits of an or and of a power of two.
+-- Sets of leaves as numbers: one leaf more.
 -- Assumes nothing.
-use mathlib.Core.Path.{_≡_, refl, subst}
-use mathlib.Core.Bool.{false, _||_}
-use Prim.Native.Nat.{ℕ, zero, suc, _+_, _-_, _*_, _^_, _/_, _%_, _<_, max}
-use native.Mathlib.Nat.{div-self, div-eq-of-lt, mul-div-right, pow-suc, one-mul, mod-eq-of-lt, mod-lt, zero-div}
-use native.Mathlib.Omega.{arith}
-use native.Mathlib.Decide.{decLt}
-use lib.Dec.{eqb}
-use lib.Pow.{pow-pos, pow-lt, pow-add}
-use lib.Bits.{bitOr, or-step, or-shr}
-use borrow.Author.Tests.{eq-eqb, ne-eqb}
-use Rattle.arrays.specs.Decoded.{hasBit}
+use Prim.Native.Nat.{ℕ, _*_, _^_, _%_, _<_}
+use lib.Bits.{bitOr}
+use Rattle.arrays.proofs.Bits.{or-union, shift-bit}
 use Rattle.follow.specs.Outcomes.{With}
-
-or-digit : (x y q : ℕ) → bitOr x y / 2 ^ q % 2 ≡ max (x / 2 ^ q % 2) (y / 2 ^ q % 2)
-or-digit x y q = rw (or-shr x y q) (omega (arith, or-step (x / 2 ^ q) (y / 2 ^ q)))
-
-max-one : (a b : ℕ) → a < 2 → b < 2 → eqb (max a b) 1 ≡ (eqb a 1 || eqb b 1)
-max-one zero zero h k = refl
-max-one zero (suc zero) h k = refl
-max-one zero (suc (suc b)) h k = absurd (omega arith)
-max-one (suc zero) zero h k = refl
-max-one (suc zero) (suc zero) h k = refl
-max-one (suc zero) (suc (suc b)) h k = absurd (omega arith)
-max-one (suc (suc a)) b h k = absurd (omega arith)
-
-or-union : (x y q : ℕ) → hasBit (bitOr x y) q ≡ (hasBit x q || hasBit y q)
-or-union x y q = rw (or-digit x y q) (max-one (x / 2 ^ q % 2) (y / 2 ^ q % 2) (mod-lt _ (omega arith)) (mod-lt _ (omega arith)))
-
-pub no-bit : (q : ℕ) → hasBit 0 q ≡ false
-no-bit q = rw (zero-div (2 ^ q))
-
-pow-digit : (p : ℕ) → 2 ^ p / 2 ^ p % 2 ≡ 1
-pow-digit p = rw (div-self (pow-pos p))
-
-pow-digit-below : (p q : ℕ) → p < q → 2 ^ p / 2 ^ q % 2 ≡ 0
-pow-digit-below p q h = rw (div-eq-of-lt (pow-lt h))
-
-pow-digit-above : (q k : ℕ) → 2 ^ (q + suc k) / 2 ^ q % 2 ≡ 0
-pow-digit-above q k = rw (pow-add 2 q (suc k), mul-div-right (2 ^ suc k) (pow-pos q), pow-suc 2 k) (omega arith)
-
-pow-bit : (p q : ℕ) → hasBit (2 ^ p) q ≡ eqb q p
-pow-bit p q = go (decLt p q) (decLt q p)
-  where
-    go : Dec (p < q) → Dec (q < p) → hasBit (2 ^ p) q ≡ eqb q p
-    go (yes l) d = rw (pow-digit-below p q l, ne-eqb q p (λ e. omega arith))
-    go (no n) (yes l) =
-        let e : q + suc (p - q - 1) ≡ p = omega arith in
-        rw (ne-eqb q p (λ e. omega arith), subst (λ x. 2 ^ x / 2 ^ q % 2 ≡ 0) e (pow-digit-above q (p - q - 1)))
-    go (no n) (no m) =
-        let e : p ≡ q = omega arith in
-        rw (e, pow-digit q, eq-eqb q q refl)
-
--- The number with the one bit p, as the code makes it.
-shift-bit : (p q : ℕ) → p < 64 → hasBit (1 * 2 ^ p % 18446744073709551616) q ≡ eqb q p
-shift-bit p q h = rw (one-mul (2 ^ p), mod-eq-of-lt {n = 2 ^ p} {m = 2 ^ 64} (pow-lt h)) (pow-bit p q)
 
 pub or-with : (x p : ℕ) → p < 64 → With x p (bitOr x (1 * 2 ^ p % 18446744073709551616))
 or-with x p h k = rw (or-union x (1 * 2 ^ p % 18446744073709551616) k, shift-bit p k h)

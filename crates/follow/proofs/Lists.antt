@@ -16,7 +16,7 @@ use Rattle.theory.proofs.Closure.{gather-once}
 use Rattle.arrays.specs.Decoded.{hasBit}
 use Rattle.follow.specs.declared.Outcomes.{Outcomes}
 use Rattle.follow.specs.Outcomes.{listed, flag, Good, Lists, With}
-use Rattle.follow.proofs.Bits.{no-bit}
+use Rattle.arrays.proofs.Bits.{no-bit}
 
 pub none-lists : Lists (record { items = replicate 65 0; len = 0; set = 0; end = 0 }) []
 none-lists =

@@ -29,7 +29,8 @@ use Rattle.follow.specs.Rows.{row, Summed}
 use Rattle.standing.specs.Stands.{Lent}
 use Rattle.matchers.specs.declared.Place.{Place}
 use Rattle.matchers.specs.Passes.{placeOf, leadsTo, lives, Back}
-use Rattle.matchers.proofs.Bits.{no-bit, and-false, meets-bits}
+use Rattle.arrays.proofs.Bits.{no-bit, and-false}
+use Rattle.matchers.proofs.Bits.{meets-bits}
 
 member-zero : (l : List Next) → member 0 (items l) ≡ hasEnd l
 member-zero [] = refl

@@ -1,37 +1,25 @@
--- Sets of leaves as numbers: the bits of an or, of an and, and of a power of two; a number without bits is 0.
+-- Sets of leaves as numbers: the bits of an and; a number without bits is 0.
 -- Assumes nothing.
 use mathlib.Core.Path.{_≡_, refl, sym, ap, _∙_, subst}
 use mathlib.Core.Bool.{Bool, true, false, not, _&&_, _||_, true≢false}
 use mathlib.Core.List.{List, [], _∷_}
-use Prim.Native.Nat.{ℕ, zero, suc, _+_, _-_, _*_, _^_, _/_, _%_, _<_, max, min}
-use native.Mathlib.Nat.{div-self, div-eq-of-lt, div-one, div-div-eq-div-mul, mul-div-right, pow-suc, one-mul, mul-comm, mod-eq-of-lt, mod-lt, zero-div}
+use Prim.Native.Nat.{ℕ, zero, suc, _+_, _*_, _^_, _/_, _%_, _<_, min}
+use native.Mathlib.Nat.{div-one, div-div-eq-div-mul, pow-suc, mul-comm, mod-lt}
 use native.Mathlib.Omega.{arith}
 use native.Mathlib.Decide.{decLt}
 use lib.Dec.{T, eqb, ltb}
-use lib.Pow.{pow-pos, pow-lt, pow-add}
-use lib.Bits.{bitOr, bitAnd, or-step, or-shr, and-step, and-shr}
+use lib.Bits.{bitOr, bitAnd, and-step, and-shr}
 use borrow.Author.Tests.{eq-eqb, ne-eqb, lt-ltb, le-ltb}
 use Rattle.theory.specs.Standing.{member}
 use Rattle.theory.specs.Code.Passes.{meets}
 use Rattle.theory.proofs.Tests.{T-true, true-T, not-true, or-false}
 use Rattle.theory.proofs.Members.{any, any-found, any-of}
 use Rattle.arrays.specs.Decoded.{hasBit}
+use Rattle.arrays.proofs.Bits.{or-union, no-bit, shift-bit, and-true, and-false}
 use Rattle.matchers.specs.Passes.{lives, Back, Added}
-
-or-digit : (x y q : ℕ) → bitOr x y / 2 ^ q % 2 ≡ max (x / 2 ^ q % 2) (y / 2 ^ q % 2)
-or-digit x y q = rw (or-shr x y q) (omega (arith, or-step (x / 2 ^ q) (y / 2 ^ q)))
 
 and-digit : (x y q : ℕ) → bitAnd x y / 2 ^ q % 2 ≡ min (x / 2 ^ q % 2) (y / 2 ^ q % 2)
 and-digit x y q = rw (and-shr x y q) (omega (arith, and-step (x / 2 ^ q) (y / 2 ^ q)))
-
-max-one : (a b : ℕ) → a < 2 → b < 2 → eqb (max a b) 1 ≡ (eqb a 1 || eqb b 1)
-max-one zero zero h k = refl
-max-one zero (suc zero) h k = refl
-max-one zero (suc (suc b)) h k = absurd (omega arith)
-max-one (suc zero) zero h k = refl
-max-one (suc zero) (suc zero) h k = refl
-max-one (suc zero) (suc (suc b)) h k = absurd (omega arith)
-max-one (suc (suc a)) b h k = absurd (omega arith)
 
 min-one : (a b : ℕ) → a < 2 → b < 2 → eqb (min a b) 1 ≡ (eqb a 1 && eqb b 1)
 min-one zero zero h k = refl
@@ -42,42 +30,11 @@ min-one (suc zero) (suc zero) h k = refl
 min-one (suc zero) (suc (suc b)) h k = absurd (omega arith)
 min-one (suc (suc a)) b h k = absurd (omega arith)
 
-or-bit : (x y q : ℕ) → hasBit (bitOr x y) q ≡ (hasBit x q || hasBit y q)
-or-bit x y q = rw (or-digit x y q) (max-one (x / 2 ^ q % 2) (y / 2 ^ q % 2) (mod-lt _ (omega arith)) (mod-lt _ (omega arith)))
-
 and-bit : (x y q : ℕ) → hasBit (bitAnd x y) q ≡ (hasBit x q && hasBit y q)
 and-bit x y q = rw (and-digit x y q) (min-one (x / 2 ^ q % 2) (y / 2 ^ q % 2) (mod-lt _ (omega arith)) (mod-lt _ (omega arith)))
 
-pub no-bit : (q : ℕ) → hasBit 0 q ≡ false
-no-bit q = rw (zero-div (2 ^ q))
-
-pow-digit : (p : ℕ) → 2 ^ p / 2 ^ p % 2 ≡ 1
-pow-digit p = rw (div-self (pow-pos p))
-
-pow-digit-below : (p q : ℕ) → p < q → 2 ^ p / 2 ^ q % 2 ≡ 0
-pow-digit-below p q h = rw (div-eq-of-lt (pow-lt h))
-
-pow-digit-above : (q k : ℕ) → 2 ^ (q + suc k) / 2 ^ q % 2 ≡ 0
-pow-digit-above q k = rw (pow-add 2 q (suc k), mul-div-right (2 ^ suc k) (pow-pos q), pow-suc 2 k) (omega arith)
-
-pow-bit : (p q : ℕ) → hasBit (2 ^ p) q ≡ eqb q p
-pow-bit p q = go (decLt p q) (decLt q p)
-  where
-    go : Dec (p < q) → Dec (q < p) → hasBit (2 ^ p) q ≡ eqb q p
-    go (yes l) d = rw (pow-digit-below p q l, ne-eqb q p (λ e. omega arith))
-    go (no n) (yes l) =
-        let e : q + suc (p - q - 1) ≡ p = omega arith in
-        rw (ne-eqb q p (λ e. omega arith), subst (λ x. 2 ^ x / 2 ^ q % 2 ≡ 0) e (pow-digit-above q (p - q - 1)))
-    go (no n) (no m) =
-        let e : p ≡ q = omega arith in
-        rw (e, pow-digit q, eq-eqb q q refl)
-
--- The number with the one bit p, as the code makes it.
-shift-bit : (p q : ℕ) → p < 64 → hasBit (1 * 2 ^ p % 18446744073709551616) q ≡ eqb q p
-shift-bit p q h = rw (one-mul (2 ^ p), mod-eq-of-lt {n = 2 ^ p} {m = 2 ^ 64} (pow-lt h)) (pow-bit p q)
-
 pub added : (x p : ℕ) → p < 64 → Added true x p (bitOr x (1 * 2 ^ p % 18446744073709551616))
-added x p h k = or-bit x (1 * 2 ^ p % 18446744073709551616) k ∙ ap (λ c. hasBit x k || c) (shift-bit p k h)
+added x p h k = or-union x (1 * 2 ^ p % 18446744073709551616) k ∙ ap (λ c. hasBit x k || c) (shift-bit p k h)
 
 -- The bits of a half.
 half-bit : (z q : ℕ) → hasBit (z / 2) q ≡ hasBit z (suc q)
@@ -124,14 +81,6 @@ meets-bits x y l set hx hy small = rw (meets-any l set) (go (any (λ p. member p
 
         both : hasBit (bitAnd x y) p ≡ true
         both = and-bit x y p ∙ rw (hx p (small p (found .2)), hy p, T-true (member p l) (found .1), T-true (member p set) (found .2))
-
-pub and-false : (c : Bool) → (c && false) ≡ false
-and-false true = refl
-and-false false = refl
-
-and-true : (c : Bool) → (c && true) ≡ c
-and-true true = refl
-and-true false = refl
 
 -- The pass over the leaves: none yet, and one more.
 pub back-none : (mask alive : ℕ) (sets ends : List ℕ) → Back 0 mask alive sets ends 0

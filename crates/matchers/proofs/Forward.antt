@@ -22,7 +22,7 @@ use Rattle.standing.specs.Stands.{means, Lent, Fine, First, Carried}
 use Rattle.matchers.specs.declared.Place.{Place}
 use Rattle.matchers.specs.declared.Ends.{Ends}
 use Rattle.matchers.specs.Passes.{placeOf, Ended}
-use Rattle.matchers.proofs.Bits.{no-bit}
+use Rattle.arrays.proofs.Bits.{no-bit}
 
 module _ (r : Re) (f : Theory.Standing → Bool) (w : List ℕ) where
   forward-start : (i : ℕ) (s : Theory.Standing) (o : Option ℕ) → s ≡ standing r [] → o ≡ cond (f s) (some i) none → forward r f (drop i w) s i o ≡ farthest r f (drop i w) i

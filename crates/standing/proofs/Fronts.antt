@@ -18,7 +18,7 @@ use Rattle.theory.proofs.Members.{nil, cons, member-append, gather-append, memb
 use Rattle.arrays.specs.Decoded.{hasBit}
 use Rattle.standing.specs.declared.Front.{Front}
 use Rattle.standing.specs.Reads.{order, Sound, leaves, Read, Fronts, rowOf, after}
-use Rattle.standing.proofs.Bits.{no-bit}
+use Rattle.arrays.proofs.Bits.{no-bit}
 
 -- Nothing is read.
 pub blank-fronts : Fronts [] (record { list = replicate 64 0; n = 0; seen = 0; ended = false })

@@ -1,5 +1,4 @@
 -- The laws of the standings' code.
-mod Bits
 mod Fronts
 mod Sets
 mod Outcomes

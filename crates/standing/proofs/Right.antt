@@ -26,7 +26,7 @@ use Rattle.standing.specs.declared.Wants.{Wants}
 use Rattle.standing.specs.Stands.{means, Lent, Fine}
 use Rattle.standing.specs.Reads.{order, leaves, Fronts, rowOf, after}
 use Rattle.standing.specs.Sets.{Small, goes, Wanted, United}
-use Rattle.standing.proofs.Bits.{no-bit}
+use Rattle.arrays.proofs.Bits.{no-bit}
 use Rattle.standing.proofs.Sets.{any-cut, any-filter, filter-cut, member-flat}
 use Rattle.standing.proofs.Outcomes.{Within, front-items, end-items, wanted-items, closure-within, flat-within, leaves-front, front-member, front-once}
 

@@ -16,7 +16,7 @@ use Rattle.theory.proofs.Members.{any, any-found, any-of, member-append, member
 use Rattle.arrays.specs.Decoded.{hasBit}
 use Rattle.standing.specs.declared.Wants.{Wants}
 use Rattle.standing.specs.Sets.{Small, United, wants, ends, Joined, Wanted}
-use Rattle.standing.proofs.Bits.{no-bit}
+use Rattle.arrays.proofs.Bits.{no-bit}
 
 from-below : (p n d : ℕ) → T (member p (from n d)) → p < n + d
 from-below p n zero t = absurd t

@@ -2,7 +2,7 @@
 -- Assumes nothing.
 use lib.Bits.{bitOr, or-lt}
 use borrow.Author.Needs.{needs}
-use Rattle.standing.proofs.Bits.{or-union, no-more}
+use Rattle.arrays.proofs.Bits.{or-union, no-more}
 use Rattle.standing.proofs.union.Statement.{statement}
 use Rattle.standing.proofs.union.Tie as tie
 

@@ -4,7 +4,7 @@ use mathlib.Core.Path.{sym, _∙_, ap}
 use mathlib.Core.Bool.{_||_}
 use native.Mathlib.Omega.{arith}
 use Rattle.arrays.specs.Decoded.{hasBit}
-use Rattle.standing.proofs.Bits.{shift-bit}
+use Rattle.arrays.proofs.Bits.{shift-bit}
 use Rattle.standing.proofs.Fronts.{read-again, read-room, read-new}
 use borrow.Author.Needs.{needs}
 use Rattle.standing.proofs.Front.add.Statement.{statement}
