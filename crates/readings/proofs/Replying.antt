@@ -1,0 +1,74 @@
+-- An accepted pattern's arrays are those that the matchers are lent, and what is replied is what is due.
+-- Assumes nothing.
+use mathlib.Core.Path.{_≡_, refl, sym, subst}
+use Prim.Native.Nat.{ℕ, _≤_}
+use mathlib.Core.List.{List}
+use native.Mathlib.Omega.{arith}
+use Rattle.theory.specs.Pattern.{count, Numbered}
+use Rattle.theory.specs.Spans.{nowhere}
+use Rattle.grammar.specs.WriteOut.{writeOut}
+use Rattle.grammar.specs.Refusals as Due
+use Rattle.arrays.specs.declared.Pattern.{Pattern}
+use Rattle.arrays.specs.Decoded.{decode}
+use Rattle.arrays.specs.Finished.{Holds}
+use Rattle.arrays.proofs.Laws.{masks-hold}
+use Rattle.reader.specs.declared.Answer.{Answer}
+use Rattle.reader.specs.declared.Answer.the-variants.{Accepted, Refused}
+use Rattle.reader.specs.declared.Reading.{Reading}
+use Rattle.reader.specs.Reading.{ReadRight}
+use Rattle.reader.specs.Reading as Read
+use Rattle.reader.proofs.Laws.{accepted-leaves, accepted-holds}
+use Rattle.follow.specs.declared.Tables.{Tables}
+use Rattle.follow.specs.Rows.{Right}
+use Rattle.standing.specs.Stands.{Lent}
+use Rattle.matchers.specs.declared.Span.the-variants.{Nowhere}
+use Rattle.matchers.specs.declared.Spans.{Spans}
+use Rattle.matchers.specs.Cuts.{spanOf, Cut}
+use Rattle.readings.specs.Replies.{meaning, due, Beside, Replied, CutBy}
+
+-- The masks of a pattern and its follow tables are those of one pattern.
+pub lent : (x : Pattern) (t : Tables) → Right (decode x) t → Numbered 0 (decode x) → count (decode x) ≤ 64 → Holds x (decode x)
+    → Lent (decode x) (x .masks) (t .rows) (t .lens) (t .sets) (t .ends)
+lent x t f n m h = record {
+  numbered = n;
+  most = m;
+  follows = f n m;
+  masked = masks-hold x n;
+  spare = λ b p l k. h .spare b p l (subst (λ c. c ≤ p) (sym (h .leaves)) k);
+}
+
+module _ (w : List ℕ) (x : Pattern) (s : Spans) where
+  means : (c : Answer) (d : Due.Answer) → Read.meaning c x ≡ Read.due d → (c ≡ Accepted → Cut (decode x) w s) → meaning c s ≡ due d w
+  means Accepted (Due.accepted t) e k =
+      let z : decode x ≡ writeOut t = cc in
+      let u : Cut (writeOut t) w s = subst (λ r. Cut r w s) z (k refl) in
+      rw (u .greedily, u .longest)
+  means Accepted (Due.refused n q) e k = absurd (let z : _≡_ {A = ℕ} 0 1 = cc in omega arith)
+  means (Refused n q) (Due.accepted t) e k = absurd (let z : _≡_ {A = ℕ} 0 1 = cc in omega arith)
+  means (Refused n q) (Due.refused m j) e k = let y : n ≡ m = cc in let z : q ≡ j = cc in rw (y, z)
+
+  beside : (c : Answer) → ((n q : ℕ) → c ≡ Refused n q → (spanOf (s .greedy) ≡ nowhere) × (spanOf (s .posix) ≡ nowhere)) → Beside c s
+  beside Accepted h = tt
+  beside (Refused n q) h = h n q refl
+
+apart : {c : Answer} {n q : ℕ} → c ≡ Accepted → c ≡ Refused n q → ⊥
+apart e f = absurd (let z : _≡_ {A = ℕ} 0 1 = cc in omega arith)
+
+replied : {p w : List ℕ} (r : Reading) (s : Spans) → ReadRight p r → (r .answer ≡ Accepted → CutBy (r .pattern) w s)
+    → ((n q : ℕ) → r .answer ≡ Refused n q → (spanOf (s .greedy) ≡ nowhere) × (spanOf (s .posix) ≡ nowhere))
+    → Replied p w (record { answer = r .answer; spans = s })
+replied {p} {w} r s h a b = record {
+  answer = h .answer;
+  right = h .right;
+  means = λ l. means w (r .pattern) s (r .answer) (h .answer) (h .means) (λ e. a e (accepted-leaves h e .0) (accepted-leaves h e .1) (accepted-holds h e) l);
+  beside = beside w (r .pattern) s (r .answer) b;
+}
+
+-- THE REPLY IS THE ONE DUE: of an accepted pattern both spans by its arrays,
+pub replied-accepted : {p w : List ℕ} (r : Reading) (s : Spans) → ReadRight p r → r .answer ≡ Accepted → CutBy (r .pattern) w s → Replied p w (record { answer = r .answer; spans = s })
+replied-accepted r s h e k = replied r s h (λ f. k) (λ n q f. absurd (apart e f))
+
+-- and of a refused one none.
+pub replied-refused : {p w : List ℕ} {n q : ℕ} (r : Reading) → ReadRight p r → r .answer ≡ Refused n q
+    → Replied p w (record { answer = r .answer; spans = record { greedy = Nowhere; posix = Nowhere } })
+replied-refused r h e = replied r _ h (λ f. absurd (apart f e)) (λ m k f. (refl, refl))

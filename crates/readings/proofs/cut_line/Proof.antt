@@ -1,0 +1,32 @@
+-- `readings::cut_line` meets its contract: what it replies is what is due.
+-- Assumes nothing.
+use borrow.Author.Needs.{needs}
+use Rattle.readings.proofs.Replying.{replied-accepted, replied-refused}
+use Rattle.readings.proofs.cut_line.Statement.{statement}
+use Rattle.readings.proofs.cut_line.Tie as tie
+
+read-requires : tie.Need-read-requires
+read-requires c κs = search needs
+
+enum-told : tie.Need-enum-told
+enum-told c = search needs
+
+enum-told-2 : tie.Need-enum-told-2
+enum-told-2 c = search needs
+
+returns : tie.Need-returns
+returns c =
+    let r = c .before .before .read in
+    replied-refused (r .result) (r .ensures) (c .enum-told2 .given .1)
+
+spans-by-requires : tie.Need-spans-by-requires
+spans-by-requires c κs = search needs
+
+returns-2 : tie.Need-returns-2
+returns-2 c =
+    let r = c .before .before .before .before .read in
+    replied-accepted (r .result) (c .spans-by .result) (r .ensures) (c .before .before .enum-told .given .1) (c .spans-by .ensures)
+
+pub cut-line-spec : {M : Type 1} → statement M
+cut-line-spec =
+    tie.close (tie.spec read-requires enum-told enum-told-2 returns spans-by-requires returns-2)

@@ -1,0 +1,2 @@
+-- What a pattern and a line are answered with.
+pub mod Replies

@@ -1,0 +1,50 @@
+-- The reply to a pattern and a line: the refusal, or both spans.
+-- Assumes nothing.
+use mathlib.Core.Path.{_≡_}
+use Prim.Native.Nat.{ℕ, _≤_}
+use mathlib.Core.List.{List}
+use Rattle.theory.specs.Pattern.{count, Numbered}
+use Rattle.theory.specs.Spans.{Span, nowhere, greedy, posix}
+use Rattle.theory.specs.Lines.{Below}
+use Rattle.grammar.specs.WriteOut.{writeOut}
+use Rattle.grammar.specs.Refusals.{Right}
+use Rattle.grammar.specs.Refusals as Due
+use Rattle.arrays.specs.declared.Pattern.{Pattern}
+use Rattle.arrays.specs.Decoded.{decode}
+use Rattle.arrays.specs.Finished.{Holds}
+use Rattle.reader.specs.declared.Answer.{Answer}
+use Rattle.reader.specs.declared.Answer.the-variants.{Accepted, Refused}
+use Rattle.matchers.specs.declared.Spans.{Spans}
+use Rattle.matchers.specs.Cuts.{spanOf, Cut}
+use Rattle.readings.specs.declared.Reply.{Reply}
+
+-- The refusal's number and place, or the greedy and the POSIX span.
+pub data Told : Type 0 where
+  refused : ℕ → ℕ → Told
+  cut : Span → Span → Told
+
+-- What a reply says.
+abbrev pub meaning : Answer → Spans → Told
+meaning Accepted s = cut (spanOf (s .greedy)) (spanOf (s .posix))
+meaning (Refused n k) s = refused n k
+
+-- What is due for the line w by the grammar's answer.
+abbrev pub due : Due.Answer → List ℕ → Told
+due (Due.accepted t) w = cut (greedy (writeOut t) w) (posix (writeOut t) w)
+due (Due.refused n k) w = refused n k
+
+-- A refused pattern's spans are none.
+abbrev pub Beside : Answer → Spans → Type 0
+Beside Accepted s = Unit {0}
+Beside (Refused n k) s = (spanOf (s .greedy) ≡ nowhere) × (spanOf (s .posix) ≡ nowhere)
+
+-- The reply is the one of the right answer, for every line of bytes.
+pub record Replied (p w : List ℕ) (r : Reply) : Type 0 where
+  pub answer : Due.Answer
+  pub right : Right p answer
+  pub means : Below 256 w → meaning (r .answer) (r .spans) ≡ due answer w
+  pub beside : Beside (r .answer) (r .spans)
+
+-- Both spans, for arrays that are those of a pattern.
+abbrev pub CutBy : Pattern → List ℕ → Spans → Type 0
+CutBy x w s = Numbered 0 (decode x) → count (decode x) ≤ 64 → Holds x (decode x) → Below 256 w → Cut (decode x) w s
