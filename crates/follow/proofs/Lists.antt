@@ -11,7 +11,8 @@ use lib.Seq.{take-suc-set, length-take-le, drop-cons, getD-take}
 use lib.Dec.{T, eqb, eqb→eq, eqb-refl, eqb·suc-suc, eqb·zero-suc, eqb·suc-zero}
 use Rattle.theory.specs.Standing.{member, gather, once, from}
 use Rattle.theory.proofs.Tests.{or-left, or-right, or-cases, or-false, either}
-use Rattle.theory.proofs.Members.{Within, gather-append, gather-member, member-from, length-from, Once, nil, once-gather, once-size}
+use Rattle.theory.specs.Code.Members.{Once, nil}
+use Rattle.theory.proofs.Members.{Within, gather-append, gather-member, member-from, length-from, once-gather, once-size}
 use Rattle.theory.proofs.Closure.{gather-once}
 use Rattle.arrays.specs.Decoded.{hasBit}
 use Rattle.follow.specs.declared.Outcomes.{Outcomes}

@@ -6,12 +6,12 @@ use mathlib.Core.Bool.{Bool}
 use mathlib.Core.List.{List, [], _∷_, _++_, append-nil, append-assoc}
 use borrow.Author.Tests.{eq-eqb, ne-eqb}
 use Rattle.theory.specs.Pattern.{Re, empty, leaf, seq, alt, star}
-use Rattle.theory.specs.Outcomes.{endsAt, wants, andThen, emptyTurn, thenLeave}
+use Rattle.theory.specs.Outcomes.{endsAt, andThen, emptyTurn, thenLeave}
 use Rattle.theory.specs.Standing.{gather, once}
 use Rattle.theory.specs.Code.Follow.{Next, start, follow}
-use Rattle.theory.specs.Code.Closure.{item, items, splice}
+use Rattle.theory.specs.Code.Closure.{items, splice}
 use Rattle.theory.proofs.Members.{gather-append}
-use Rattle.theory.proofs.Closure.{gather-once}
+use Rattle.theory.proofs.Closure.{gather-once, items-append, items-andThen}
 use Rattle.follow.specs.Parts.{into, intoAfter}
 
 splice-append : (m l k : List ℕ) → splice m (l ++ k) ≡ splice m l ++ splice m k
@@ -29,15 +29,6 @@ splice-once s [] m = refl
 splice-once s (zero ∷ l) m =
     rw (gather-append s (once m) (splice (once m) l), gather-append s m (splice m l), gather-once s m) (splice-once (gather s m) l m)
 splice-once s (suc p ∷ l) m = splice-once (gather s (suc p ∷ [])) l m
-
-items-append : (l m : List Next) → items (l ++ m) ≡ items l ++ items m
-items-append [] m = refl
-items-append (o ∷ l) m = ap (λ x. item o ∷ x) (items-append l m)
-
-items-andThen : (l m : List Next) → items (andThen l (λ _. m)) ≡ splice (items m) (items l)
-items-andThen [] m = refl
-items-andThen (endsAt u ∷ l) m = rw (items-append m, items-andThen l m)
-items-andThen (wants p ∷ l) m = ap (λ x. suc p ∷ x) (items-andThen l m)
 
 -- A list that goes on by m, and then by `rest`.
 then : (out rest : List ℕ) (l m : List Next) → gather out (splice rest (items (andThen l (λ _. m)))) ≡ gather out (splice (once (splice rest (items m))) (items l))

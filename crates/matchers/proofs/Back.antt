@@ -9,10 +9,9 @@ use native.Mathlib.Omega.{arith}
 use native.Mathlib.Decide.{decLt}
 use lib.ListN.{length, getD, drop, drop-of-length-le}
 use lib.Seq.{drop-cons}
-use lib.Dec.{T, eqb, ltb, eqb·suc-suc, eqb·zero-suc, eqb·suc-zero}
+use lib.Dec.{T, eqb, ltb}
 use borrow.Author.Tests.{lt-ltb}
 use Rattle.theory.specs.Pattern.{Re, has, count}
-use Rattle.theory.specs.Outcomes.{endsAt, wants}
 use Rattle.theory.specs.Lines.{Below}
 use Rattle.theory.specs.Standing.{member, wanted, once}
 use Rattle.theory.specs.Code.Follow.{Next, start, follow, hasEnd}
@@ -21,7 +20,7 @@ use Rattle.theory.specs.Code.Passes.{leads, alive, starts, least, leftmostStart
 use Rattle.theory.proofs.Tests.{T-true}
 use Rattle.theory.proofs.Members.{gather-member}
 use Rattle.theory.proofs.Extend.{has-beyond}
-use Rattle.theory.proofs.Closure.{closure-right, closureAfter-right}
+use Rattle.theory.proofs.Closure.{closure-right, closureAfter-right, member-zero, member-wants}
 use Rattle.theory.proofs.Head.{alive-leaf}
 use Rattle.arrays.specs.Decoded.{hasBit}
 use Rattle.follow.specs.declared.Tables.{Tables}
@@ -31,16 +30,6 @@ use Rattle.matchers.specs.declared.Place.{Place}
 use Rattle.matchers.specs.Passes.{placeOf, leadsTo, lives, Back}
 use Rattle.arrays.proofs.Bits.{no-bit, and-false}
 use Rattle.matchers.proofs.Bits.{meets-bits}
-
-member-zero : (l : List Next) → member 0 (items l) ≡ hasEnd l
-member-zero [] = refl
-member-zero (endsAt u ∷ l) = refl
-member-zero (wants p ∷ l) = rw (eqb·zero-suc p) (member-zero l)
-
-member-wants : (p : ℕ) (l : List Next) → member (suc p) (items l) ≡ member p (wanted l)
-member-wants p [] = refl
-member-wants p (endsAt u ∷ l) = rw (eqb·suc-zero p) (member-wants p l)
-member-wants p (wants q ∷ l) = rw (eqb·suc-suc p q, member-wants p l)
 
 below-at : (w : List ℕ) → Below 256 w → (i : ℕ) → i < length w → getD w i 0 < 256
 below-at [] h i l = absurd (omega arith)

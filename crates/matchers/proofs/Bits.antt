@@ -13,7 +13,8 @@ use borrow.Author.Tests.{eq-eqb, ne-eqb, lt-ltb, le-ltb}
 use Rattle.theory.specs.Standing.{member}
 use Rattle.theory.specs.Code.Passes.{meets}
 use Rattle.theory.proofs.Tests.{T-true, true-T, not-true, or-false}
-use Rattle.theory.proofs.Members.{any, any-found, any-of}
+use Rattle.theory.specs.Code.Members.{any}
+use Rattle.theory.proofs.Members.{any-found, any-of}
 use Rattle.arrays.specs.Decoded.{hasBit}
 use Rattle.arrays.proofs.Bits.{or-union, no-bit, shift-bit, and-true, and-false}
 use Rattle.matchers.specs.Passes.{lives, Back, Added}

@@ -14,7 +14,8 @@ use borrow.Author.Tests.{lt-ltb, le-ltb}
 use Rattle.theory.specs.Standing.{member, gather, from}
 use Rattle.theory.specs.Code.Closure.{flat}
 use Rattle.theory.proofs.Tests.{T-true, not-true, or-cases, or-assoc, or-false, either}
-use Rattle.theory.proofs.Members.{nil, cons, member-append, gather-append, member-from, length-from, once-gather, once-size}
+use Rattle.theory.specs.Code.Members.{nil, cons}
+use Rattle.theory.proofs.Members.{member-append, gather-append, member-from, length-from, once-gather, once-size}
 use Rattle.arrays.specs.Decoded.{hasBit}
 use Rattle.standing.specs.declared.Front.{Front}
 use Rattle.standing.specs.Reads.{order, Sound, leaves, Read, Fronts, rowOf, after}

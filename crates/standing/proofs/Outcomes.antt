@@ -5,12 +5,12 @@ use Prim.Native.Nat.{ℕ, zero, suc, _<_}
 use mathlib.Core.Bool.{Bool, true, false, cond}
 use mathlib.Core.List.{List, [], _∷_, _++_, append-nil, append-assoc}
 use native.Mathlib.Omega.{arith}
-use lib.Dec.{T, eqb, eqb-refl, eqb·suc-suc, eqb·zero-suc, eqb·suc-zero}
+use lib.Dec.{T, eqb, eqb-refl, eqb·suc-suc}
 use borrow.Author.Tests.{lt-ltb}
 use Rattle.theory.specs.Pattern.{Re, empty, leaf, seq, alt, star, count, has, Numbered}
 use Rattle.theory.specs.Outcomes.{endsAt, wants}
-use Rattle.theory.specs.Standing.{member, gather, once, fronts, wanted}
-use Rattle.theory.specs.Code.Follow.{Next, start, follow, hasEnd}
+use Rattle.theory.specs.Standing.{member, gather, once, fronts}
+use Rattle.theory.specs.Code.Follow.{Next, start, follow}
 use Rattle.theory.specs.Code.Closure.{items, closure, closureAfter, front, flat, takes}
 use Rattle.theory.proofs.Tests.{or-left, or-right, or-cases, either}
 use Rattle.theory.proofs.Members.{member-append, gather-member}
@@ -19,7 +19,7 @@ use Rattle.theory.proofs.Turns.{all-emptyTurn, all-thenLeave}
 use Rattle.theory.proofs.Equations.{Leaf, all-when}
 use Rattle.theory.proofs.Extend.{leaf-range}
 use Rattle.theory.proofs.Step.{wanted-in}
-use Rattle.theory.proofs.Closure.{closure-right, closureAfter-right}
+use Rattle.theory.proofs.Closure.{closure-right, closureAfter-right, up, up-append, member-up, zero-up, gather-more, member-wants}
 use Rattle.standing.specs.Reads.{leaves}
 
 -- Every wanted leaf is a leaf of the pattern.
@@ -50,16 +50,6 @@ front-items [] = refl
 front-items (endsAt u ∷ l) = refl
 front-items (wants p ∷ l) = ap (λ x. p ∷ x) (front-items l)
 
-pub end-items : (l : List Next) → member 0 (items l) ≡ hasEnd l
-end-items [] = refl
-end-items (endsAt u ∷ l) = refl
-end-items (wants p ∷ l) = rw (eqb·zero-suc p) (end-items l)
-
-pub wanted-items : (p : ℕ) (l : List Next) → member (suc p) (items l) ≡ member p (wanted l)
-wanted-items p [] = refl
-wanted-items p (endsAt u ∷ l) = rw (eqb·suc-zero p) (wanted-items p l)
-wanted-items p (wants q ∷ l) = rw (eqb·suc-suc p q, wanted-items p l)
-
 -- The numbers of wanted leaves are at most n.
 abbrev pub Within : ℕ → List ℕ → Type 0
 Within n l = (q : ℕ) → T (member (suc q) l) → q < n
@@ -67,7 +57,7 @@ Within n l = (q : ℕ) → T (member (suc q) l) → q < n
 module _ (r : Re) (d : Numbered 0 r) where
   items-within : (l : List Next) → Leaves r l → Within (count r) (once (items l))
   items-within l h q t =
-      let c = leaf-range 0 d (wanted-in h q (rw (gather-member (suc q) [] (items l), wanted-items q l) at t)) in
+      let c = leaf-range 0 d (wanted-in h q (rw (gather-member (suc q) [] (items l), member-wants q l) at t)) in
       omega arith
 
   pub closure-within : Within (count r) (closure r)
@@ -98,34 +88,9 @@ front-member q (zero ∷ l) t = absurd t
 front-member q (suc p ∷ l) t = rw (eqb·suc-suc q p) (either (or-left (eqb q p) (member (suc q) l)) (λ i. or-right (eqb q p) (member (suc q) l) (front-member q l i)) (or-cases (eqb q p) (member q (front l)) t))
 
 -- Each once, and then the leaves before the first end, is the same as the other way round.
-abbrev up : List ℕ → List ℕ
-up [] = []
-up (p ∷ l) = suc p ∷ up l
-
 front-up : (u v : List ℕ) → front (up u ++ v) ≡ u ++ front v
 front-up [] v = refl
 front-up (p ∷ u) v = ap (λ x. p ∷ x) (front-up u v)
-
-up-append : (u v : List ℕ) → up (u ++ v) ≡ up u ++ up v
-up-append [] v = refl
-up-append (p ∷ u) v = ap (λ x. suc p ∷ x) (up-append u v)
-
-member-up : (p : ℕ) (u : List ℕ) → member (suc p) (up u) ≡ member p u
-member-up p [] = refl
-member-up p (q ∷ u) = rw (eqb·suc-suc p q, member-up p u)
-
-zero-up : (u : List ℕ) → member 0 (up u) ≡ false
-zero-up [] = refl
-zero-up (p ∷ u) = rw (eqb·zero-suc p, zero-up u)
-
--- `gather` only adds at the end.
-gather-more : (s l : List ℕ) → (v : List ℕ) × (gather s l ≡ s ++ v)
-gather-more s [] = ([], sym (append-nil s))
-gather-more s (p ∷ l) = go (member p s) (gather-more s l) (gather-more (s ++ (p ∷ [])) l)
-  where
-    go : (c : Bool) → (v : List ℕ) × (gather s l ≡ s ++ v) → (v : List ℕ) × (gather (s ++ (p ∷ [])) l ≡ s ++ (p ∷ []) ++ v) → (v : List ℕ) × (gather (cond c s (s ++ (p ∷ []))) l ≡ s ++ v)
-    go true x y = x
-    go false x (v, e) = (p ∷ v, e ∙ append-assoc s (p ∷ []) v)
 
 front-gather : (u l : List ℕ) → front (gather (up u) l) ≡ gather u (front l)
 front-gather u [] = ap (λ x. front x) (sym (append-nil (up u))) ∙ front-up u [] ∙ append-nil u

@@ -16,9 +16,10 @@ use Rattle.theory.specs.Code.Follow.{start, hasEnd}
 use Rattle.theory.specs.Code.Closure.{items, closure, closureAfter, flat, front, takes, moves}
 use Rattle.theory.specs.Code.Next.{next}
 use Rattle.theory.proofs.Tests.{not-true, or-left, or-right}
-use Rattle.theory.proofs.Members.{any, gather-member, filter-same}
+use Rattle.theory.specs.Code.Members.{any}
+use Rattle.theory.proofs.Members.{gather-member, filter-same}
 use Rattle.theory.proofs.Step.{step-start}
-use Rattle.theory.proofs.Closure.{closure-right, gather-once, next-moves}
+use Rattle.theory.proofs.Closure.{closure-right, gather-once, next-moves, member-zero, member-wants}
 use Rattle.arrays.specs.Decoded.{hasBit}
 use Rattle.standing.specs.declared.Standing.{Standing}
 use Rattle.standing.specs.declared.Front.{Front}
@@ -28,7 +29,7 @@ use Rattle.standing.specs.Reads.{order, leaves, Fronts, rowOf, after}
 use Rattle.standing.specs.Sets.{Small, goes, Wanted, United}
 use Rattle.arrays.proofs.Bits.{no-bit}
 use Rattle.standing.proofs.Sets.{any-cut, any-filter, filter-cut, member-flat}
-use Rattle.standing.proofs.Outcomes.{Within, front-items, end-items, wanted-items, closure-within, flat-within, leaves-front, front-member, front-once}
+use Rattle.standing.proofs.Outcomes.{Within, front-items, closure-within, flat-within, leaves-front, front-member, front-once}
 
 -- The standing as the code puts it together.
 abbrev pub made : Front → ℕ → Bool → Standing
@@ -83,9 +84,9 @@ module _ (masks rows lens sets flags : List ℕ) (r : Re) (d : Lent r masks rows
   start-shown =
       rw (step-start r)
       (let o : once (front (closure r)) ≡ once (fronts (start r)) = rw (closure-right r, front-once (items (start r)), front-items (start r)) (gather-once [] (fronts (start r))) in
-      let e : member 0 (closure r) ≡ hasEnd (start r) = rw (closure-right r, gather-member 0 [] (items (start r))) (end-items (start r)) in
+      let e : member 0 (closure r) ≡ hasEnd (start r) = rw (closure-right r, gather-member 0 [] (items (start r))) (member-zero (start r)) in
       let a : filter (λ p. member (suc p) (closure r)) (from 0 (count r)) ≡ filter (λ p. member p (wanted (start r))) (from 0 (count r)) =
-      filter-same _ _ (from 0 (count r)) λ p. rw (closure-right r, gather-member (suc p) [] (items (start r))) (wanted-items p (start r)) in
+      filter-same _ _ (from 0 (count r)) λ p. rw (closure-right r, gather-member (suc p) [] (items (start r))) (member-wants p (start r)) in
       λ i. record { order = o i; first = e i; all = a i; some = e i })
 
   start-shows : (x : ℕ) → United 0 (getD sets 0 0) x → Shows (rowOf rows lens 0) x (eqb (getD flags 0 0) 1)

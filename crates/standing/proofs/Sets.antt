@@ -12,7 +12,8 @@ use lib.Dec.{T, eqb, eqb→eq}
 use Rattle.theory.specs.Standing.{member, from, filter}
 use Rattle.theory.specs.Code.Closure.{flat}
 use Rattle.theory.proofs.Tests.{T-true, same-test, or-cases, or-assoc, or-false, either}
-use Rattle.theory.proofs.Members.{any, any-found, any-of, member-append, member-from}
+use Rattle.theory.specs.Code.Members.{any}
+use Rattle.theory.proofs.Members.{any-found, any-of, member-append, member-from}
 use Rattle.arrays.specs.Decoded.{hasBit}
 use Rattle.standing.specs.declared.Wants.{Wants}
 use Rattle.standing.specs.Sets.{Small, United, wants, ends, Joined, Wanted}

@@ -7,7 +7,7 @@ use mathlib.Core.List.{List, [], _∷_}
 use lib.ListN.{length, getD, take, drop}
 use lib.Dec.{T, ltb}
 use Rattle.theory.specs.Standing.{member, gather, once}
-use Rattle.theory.proofs.Members.{Once}
+use Rattle.theory.specs.Code.Members.{Once}
 use Rattle.arrays.specs.Decoded.{hasBit}
 use Rattle.standing.specs.declared.Front.{Front}
 

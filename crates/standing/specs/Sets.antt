@@ -7,7 +7,7 @@ use mathlib.Core.List.{List}
 use lib.ListN.{getD}
 use lib.Dec.{eqb}
 use Rattle.theory.specs.Standing.{from}
-use Rattle.theory.proofs.Members.{any}
+use Rattle.theory.specs.Code.Members.{any}
 use Rattle.arrays.specs.Decoded.{hasBit}
 use Rattle.standing.specs.declared.Wants.{Wants}
 

@@ -10,7 +10,7 @@ use Rattle.theory.specs.Pattern.{Re, count, has, Numbered}
 use Rattle.theory.specs.Standing.{member, from, filter, standing}
 use Rattle.theory.specs.Standing as Theory
 use Rattle.theory.specs.Code.Next.{next}
-use Rattle.theory.proofs.Members.{Once}
+use Rattle.theory.specs.Code.Members.{Once}
 use Rattle.arrays.specs.Decoded.{hasBit}
 use Rattle.follow.specs.declared.Tables.{Tables}
 use Rattle.follow.specs.Rows.{Follows}

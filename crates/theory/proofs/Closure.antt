@@ -65,11 +65,11 @@ flat-same f g e s (p ∷ l) =
     rw (gather-append s (f p) (flat f l), gather-append s (g p) (flat g l))
     (ap (λ x. gather x (flat f l)) (sym (gather-once s (f p)) ∙ ap (gather s) (e p) ∙ gather-once s (g p)) ∙ flat-same f g e (gather s (g p)) l)
 
-items-append : (l m : List Next) → items (l ++ m) ≡ items l ++ items m
+pub items-append : (l m : List Next) → items (l ++ m) ≡ items l ++ items m
 items-append [] m = refl
 items-append (o ∷ l) m = ap (λ x. item o ∷ x) (items-append l m)
 
-items-andThen : (l m : List Next) → items (andThen l (λ _. m)) ≡ splice (items m) (items l)
+pub items-andThen : (l m : List Next) → items (andThen l (λ _. m)) ≡ splice (items m) (items l)
 items-andThen [] m = refl
 items-andThen (endsAt u ∷ l) m = rw (items-append m, items-andThen l m)
 items-andThen (wants p ∷ l) m = ap (λ x. suc p ∷ x) (items-andThen l m)
@@ -132,7 +132,8 @@ moves-right r b l = flat-same (takes r b) (λ p. items (after r b p)) same [] l 
     joined [] = refl
     joined (p ∷ m) = rw (items-append, joined m)
 
-abbrev up : List ℕ → List ℕ
+-- The numbers of wanted leaves.
+abbrev pub up : List ℕ → List ℕ
 up [] = []
 up (p ∷ l) = suc p ∷ up l
 
@@ -144,20 +145,20 @@ front-only : (u : List ℕ) → front (up u) ≡ u
 front-only [] = refl
 front-only (p ∷ u) = ap (λ x. p ∷ x) (front-only u)
 
-up-append : (u v : List ℕ) → up (u ++ v) ≡ up u ++ up v
+pub up-append : (u v : List ℕ) → up (u ++ v) ≡ up u ++ up v
 up-append [] v = refl
 up-append (p ∷ u) v = ap (λ x. suc p ∷ x) (up-append u v)
 
-member-up : (p : ℕ) (u : List ℕ) → member (suc p) (up u) ≡ member p u
+pub member-up : (p : ℕ) (u : List ℕ) → member (suc p) (up u) ≡ member p u
 member-up p [] = refl
 member-up p (q ∷ u) = rw (eqb·suc-suc p q, member-up p u)
 
-zero-up : (u : List ℕ) → member 0 (up u) ≡ false
+pub zero-up : (u : List ℕ) → member 0 (up u) ≡ false
 zero-up [] = refl
 zero-up (p ∷ u) = rw (eqb·zero-suc p, zero-up u)
 
 -- `gather` only adds at the end.
-gather-more : (s l : List ℕ) → (v : List ℕ) × (gather s l ≡ s ++ v)
+pub gather-more : (s l : List ℕ) → (v : List ℕ) × (gather s l ≡ s ++ v)
 gather-more s [] = ([], sym (append-nil s))
 gather-more s (p ∷ l) = go (member p s) (gather-more s l) (gather-more (s ++ (p ∷ [])) l)
   where
@@ -181,12 +182,12 @@ front-items u (wants p ∷ l) =
     go true x y = x
     go false x y = y
 
-member-zero : (l : List Next) → member 0 (items l) ≡ hasEnd l
+pub member-zero : (l : List Next) → member 0 (items l) ≡ hasEnd l
 member-zero [] = refl
 member-zero (endsAt u ∷ l) = refl
 member-zero (wants p ∷ l) = rw (eqb·zero-suc p) (member-zero l)
 
-member-wants : (p : ℕ) (l : List Next) → member (suc p) (items l) ≡ member p (wanted l)
+pub member-wants : (p : ℕ) (l : List Next) → member (suc p) (items l) ≡ member p (wanted l)
 member-wants p [] = refl
 member-wants p (endsAt u ∷ l) = rw (eqb·suc-zero p) (member-wants p l)
 member-wants p (wants q ∷ l) = rw (eqb·suc-suc p q, member-wants p l)

@@ -21,7 +21,7 @@ use Rattle.theory.proofs.Outcomes.{ends, AllOut, end, wish, replace-app
 use Rattle.theory.proofs.Equations.{outcomes-all, outcomes-star}
 use Rattle.theory.proofs.Turns.{replace-thenLeave, afterTurn-congr, replace-afterTurn}
 use Rattle.theory.proofs.Extend.{place, grow, extend}
-use Rattle.theory.proofs.Members.{any}
+use Rattle.theory.specs.Code.Members.{any}
 use Rattle.theory.proofs.Tests.{T-true, not-true, same-test, or-left, or-right}
 
 span-end : {i k m : ℕ} → span i k ≡ span i m → k ≡ m

@@ -10,12 +10,8 @@ use native.Mathlib.Decide.{ℕ-discrete}
 use lib.ListN.{length, length-append}
 use lib.Dec.{T, eqb, eqb→eq, eqb-refl}
 use Rattle.theory.specs.Standing.{member, gather, from, filter}
+use Rattle.theory.specs.Code.Members.{any, Once, nil, cons}
 use Rattle.theory.proofs.Tests.{T-true, true-T, same-test, or-left, or-right, or-cases, or-assoc, or-false, either}
-
--- A test that passes at some number of the list.
-abbrev pub any : (ℕ → Bool) → List ℕ → Bool
-any f [] = false
-any f (p ∷ l) = f p || any f l
 
 pub any-found : (f : ℕ → Bool) (l : List ℕ) → T (any f l) → (p : ℕ) × T (member p l) × T (f p)
 any-found f [] t = absurd t
@@ -105,11 +101,6 @@ member-from p n (suc d) g h =
 pub length-from : (n d : ℕ) → length (from n d) ≡ d
 length-from n zero = refl
 length-from n (suc d) = ap suc (length-from (suc n) d)
-
--- Each number is there once.
-pub data Once : List ℕ → Type 0 where
-  nil : Once []
-  cons : {p : ℕ} {l : List ℕ} → (T (member p l) → ⊥) → Once l → Once (p ∷ l)
 
 once-snoc : {l : List ℕ} (p : ℕ) → Once l → (T (member p l) → ⊥) → Once (l ++ (p ∷ []))
 once-snoc p nil h = cons (λ t. t) nil

@@ -11,7 +11,8 @@ use Rattle.theory.specs.Standing.{fronts, wanted, member, from, standing
 use Rattle.theory.proofs.Equations.{outcomes-all}
 use Rattle.theory.proofs.Extend.{leaf-range}
 use Rattle.theory.proofs.Tests.{or-left, or-right, or-cases, either}
-use Rattle.theory.proofs.Members.{Within, gather-member, member-from, length-from, Once, nil, once-gather, once-size}
+use Rattle.theory.specs.Code.Members.{Once, nil}
+use Rattle.theory.proofs.Members.{Within, gather-member, member-from, length-from, once-gather, once-size}
 use Rattle.theory.proofs.Step.{wanted-in}
 
 -- A standing has at most as many leaves as the pattern, in (a) and in (c), each below its count.

@@ -16,7 +16,8 @@ use Rattle.theory.proofs.Outcomes.{AllOut, none, end, wish, all-map}
 use Rattle.theory.proofs.Equations.{Leaf, outcomes-all}
 use Rattle.theory.proofs.Extend.{place, grow, extend, leaf-range, outcomes-end}
 use Rattle.theory.proofs.Tests.{T-true, true-T, not-true, or-cases, or-false, either}
-use Rattle.theory.proofs.Members.{any, any-of, any-same, Within, member-append, gather-append, gather-absorb, gather-member, filter-of, filter-passes, filter-same, member-from}
+use Rattle.theory.specs.Code.Members.{any}
+use Rattle.theory.proofs.Members.{any-of, any-same, Within, member-append, gather-append, gather-absorb, gather-member, filter-of, filter-passes, filter-same, member-from}
 
 -- What is read off two lists joined.
 module _ {K : Type 0} where

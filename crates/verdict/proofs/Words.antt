@@ -14,7 +14,8 @@ use Rattle.theory.specs.Lines.{Below, _≺_}
 use Rattle.theory.specs.Records.{at, Records, Alike, Unlike}
 use Rattle.theory.specs.Code.Search.{Full, SearchEnd, alike, unlike, full}
 use Rattle.theory.proofs.Tests.{either, or-cases}
-use Rattle.theory.proofs.Members.{length-from, member-from, Once, nil, cons, once-size}
+use Rattle.theory.specs.Code.Members.{Once, nil, cons}
+use Rattle.theory.proofs.Members.{length-from, member-from, once-size}
 use Rattle.theory.proofs.Cut.{witness-cut, cut-witness}
 use Rattle.theory.proofs.Lines.{≺-irrefl, ≺-trans, ≺-total, below-left, below-right, snoc-size, snoc-last}
 use Rattle.theory.proofs.Records.{alike-right, unlike-first}
