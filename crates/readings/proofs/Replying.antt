@@ -1,11 +1,13 @@
 -- An accepted pattern's arrays are those that the matchers are lent, and what is replied is what is due.
 -- Assumes nothing.
 use mathlib.Core.Path.{_≡_, refl, sym, subst}
-use Prim.Native.Nat.{ℕ, _≤_}
-use mathlib.Core.List.{List}
+use Prim.Native.Nat.{ℕ, suc, _≤_, _<_}
+use mathlib.Core.List.{List, [], _∷_}
 use native.Mathlib.Omega.{arith}
+use lib.ListN.{getD}
 use Rattle.theory.specs.Pattern.{count, Numbered}
 use Rattle.theory.specs.Spans.{nowhere}
+use Rattle.theory.specs.Lines.{Below}
 use Rattle.grammar.specs.WriteOut.{writeOut}
 use Rattle.grammar.specs.Refusals as Due
 use Rattle.arrays.specs.declared.Pattern.{Pattern}
@@ -51,22 +53,27 @@ module _ (w : List ℕ) (x : Pattern) (s : Spans) where
   beside Accepted h = tt
   beside (Refused n q) h = h n q refl
 
+-- A line of a byte slice is a line of bytes.
+below : (w : List ℕ) → ((i : ℕ) → getD w i 0 < 256) → Below 256 w
+below [] h = tt
+below (b ∷ w) h = (h 0, below w (λ i. h (suc i)))
+
 apart : {c : Answer} {n q : ℕ} → c ≡ Accepted → c ≡ Refused n q → ⊥
 apart e f = absurd (let z : _≡_ {A = ℕ} 0 1 = cc in omega arith)
 
-replied : {p w : List ℕ} (r : Reading) (s : Spans) → ReadRight p r → (r .answer ≡ Accepted → CutBy (r .pattern) w s)
+replied : {p w : List ℕ} (r : Reading) (s : Spans) → ReadRight p r → (r .answer ≡ Accepted → Cut (decode (r .pattern)) w s)
     → ((n q : ℕ) → r .answer ≡ Refused n q → (spanOf (s .greedy) ≡ nowhere) × (spanOf (s .posix) ≡ nowhere))
     → Replied p w (record { answer = r .answer; spans = s })
 replied {p} {w} r s h a b = record {
   answer = h .answer;
   right = h .right;
-  means = λ l. means w (r .pattern) s (r .answer) (h .answer) (h .means) (λ e. a e (accepted-leaves h e .0) (accepted-leaves h e .1) (accepted-holds h e) l);
+  means = means w (r .pattern) s (r .answer) (h .answer) (h .means) a;
   beside = beside w (r .pattern) s (r .answer) b;
 }
 
 -- THE REPLY IS THE ONE DUE: of an accepted pattern both spans by its arrays,
-pub replied-accepted : {p w : List ℕ} (r : Reading) (s : Spans) → ReadRight p r → r .answer ≡ Accepted → CutBy (r .pattern) w s → Replied p w (record { answer = r .answer; spans = s })
-replied-accepted r s h e k = replied r s h (λ f. k) (λ n q f. absurd (apart e f))
+pub replied-accepted : {p w : List ℕ} (r : Reading) (s : Spans) → ReadRight p r → r .answer ≡ Accepted → CutBy (r .pattern) w s → ((i : ℕ) → getD w i 0 < 256) → Replied p w (record { answer = r .answer; spans = s })
+replied-accepted {w = w} r s h e k l = replied r s h (λ f. k (accepted-leaves h e .0) (accepted-leaves h e .1) (accepted-holds h e) (below w l)) (λ n q f. absurd (apart e f))
 
 -- and of a refused one none.
 pub replied-refused : {p w : List ℕ} {n q : ℕ} (r : Reading) → ReadRight p r → r .answer ≡ Refused n q

@@ -38,11 +38,11 @@ abbrev pub Beside : Answer → Spans → Type 0
 Beside Accepted s = Unit {0}
 Beside (Refused n k) s = (spanOf (s .greedy) ≡ nowhere) × (spanOf (s .posix) ≡ nowhere)
 
--- The reply is the one of the right answer, for every line of bytes.
+-- The reply is the one of the right answer.
 pub record Replied (p w : List ℕ) (r : Reply) : Type 0 where
   pub answer : Due.Answer
   pub right : Right p answer
-  pub means : Below 256 w → meaning (r .answer) (r .spans) ≡ due answer w
+  pub means : meaning (r .answer) (r .spans) ≡ due answer w
   pub beside : Beside (r .answer) (r .spans)
 
 -- Both spans, for arrays that are those of a pattern.
