@@ -1,43 +1,26 @@
--- An accepted pattern's arrays are those that the matchers are lent, and what is replied is what is due.
+-- What is replied is what is due.
 -- Assumes nothing.
-use mathlib.Core.Path.{_≡_, refl, sym, subst}
-use Prim.Native.Nat.{ℕ, suc, _≤_, _<_}
+use mathlib.Core.Path.{_≡_, refl, subst}
+use Prim.Native.Nat.{ℕ, suc, _<_}
 use mathlib.Core.List.{List, [], _∷_}
 use native.Mathlib.Omega.{arith}
 use lib.ListN.{getD}
-use Rattle.theory.specs.Pattern.{count, Numbered}
 use Rattle.theory.specs.Spans.{nowhere}
 use Rattle.theory.specs.Lines.{Below}
 use Rattle.grammar.specs.WriteOut.{writeOut}
 use Rattle.grammar.specs.Refusals as Due
 use Rattle.arrays.specs.declared.Pattern.{Pattern}
 use Rattle.arrays.specs.Decoded.{decode}
-use Rattle.arrays.specs.Finished.{Holds}
-use Rattle.arrays.proofs.Laws.{masks-hold}
 use Rattle.reader.specs.declared.Answer.{Answer}
 use Rattle.reader.specs.declared.Answer.the-variants.{Accepted, Refused}
 use Rattle.reader.specs.declared.Reading.{Reading}
 use Rattle.reader.specs.Reading.{ReadRight}
 use Rattle.reader.specs.Reading as Read
 use Rattle.reader.proofs.Laws.{accepted-leaves, accepted-holds}
-use Rattle.follow.specs.declared.Tables.{Tables}
-use Rattle.follow.specs.Rows.{Right}
-use Rattle.standing.specs.Stands.{Lent}
 use Rattle.matchers.specs.declared.Span.the-variants.{Nowhere}
 use Rattle.matchers.specs.declared.Spans.{Spans}
 use Rattle.matchers.specs.Cuts.{spanOf, Cut}
 use Rattle.readings.specs.Replies.{meaning, due, Beside, Replied, CutBy}
-
--- The masks of a pattern and its follow tables are those of one pattern.
-pub lent : (x : Pattern) (t : Tables) → Right (decode x) t → Numbered 0 (decode x) → count (decode x) ≤ 64 → Holds x (decode x)
-    → Lent (decode x) (x .masks) (t .rows) (t .lens) (t .sets) (t .ends)
-lent x t f n m h = record {
-  numbered = n;
-  most = m;
-  follows = f n m;
-  masked = masks-hold x n;
-  spare = λ b p l k. h .spare b p l (subst (λ c. c ≤ p) (sym (h .leaves)) k);
-}
 
 module _ (w : List ℕ) (x : Pattern) (s : Spans) where
   means : (c : Answer) (d : Due.Answer) → Read.meaning c x ≡ Read.due d → (c ≡ Accepted → Cut (decode x) w s) → meaning c s ≡ due d w

@@ -1,5 +1,7 @@
 -- The laws of the standings' code.
 mod Fronts
-mod Sets
 mod Outcomes
 mod Right
+-- For the layers above.
+pub mod Sets
+pub mod Lent

@@ -19,7 +19,7 @@ use Rattle.standing.specs.declared.Wants.{Wants}
 use Rattle.standing.specs.Sets.{Small, United, wants, ends, Joined, Wanted}
 use Rattle.arrays.proofs.Bits.{no-bit}
 
-from-below : (p n d : ℕ) → T (member p (from n d)) → p < n + d
+pub from-below : (p n d : ℕ) → T (member p (from n d)) → p < n + d
 from-below p n zero t = absurd t
 from-below p n (suc d) t = either (λ e. omega (arith, eqb→eq p n e)) (λ i. omega (arith, from-below p (suc n) d i)) (or-cases (eqb p n) (member p (from (suc n) d)) t)
 

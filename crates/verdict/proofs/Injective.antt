@@ -94,7 +94,7 @@ filter-from : (f g : ℕ → Bool) (n d : ℕ) → ((p : ℕ) → n ≤ p → p 
 filter-from f g n zero h = refl
 filter-from f g n (suc d) h = rw (h n (omega arith) (omega arith), filter-from f g (suc n) d λ p a b. h p (omega arith) (omega arith))
 
-below-by : (c : ℕ) (l : List ℕ) → ((p : ℕ) → T (member p l) → p < c) → Below c l
+pub below-by : (c : ℕ) (l : List ℕ) → ((p : ℕ) → T (member p l) → p < c) → Below c l
 below-by c [] h = tt
 below-by c (p ∷ l) h = (h p (or-left (eqb p p) (member p l) (eqb-refl p)), below-by c l λ q t. h q (or-right (eqb q p) (member q l) t))
 

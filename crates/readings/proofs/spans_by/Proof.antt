@@ -2,7 +2,7 @@
 -- Assumes nothing.
 use borrow.Author.Needs.{needs}
 use Rattle.arrays.specs.Decoded.{decode}
-use Rattle.readings.proofs.Replying.{lent}
+use Rattle.standing.proofs.Lent.{lent}
 use Rattle.readings.proofs.spans_by.Statement.{statement}
 use Rattle.readings.proofs.spans_by.Tie as tie
 

@@ -1,0 +1,110 @@
+-- What the search finds for an accepted pattern, and the line that is handed over, is the right answer.
+-- Assumes nothing.
+use mathlib.Core.Path.{_≡_, refl, sym, ap, ap₂, subst}
+use Prim.Native.Nat.{ℕ, _-_, _≤_, _<_}
+use mathlib.Core.List.{List}
+use native.Mathlib.Omega.{arith}
+use lib.ListN.{length}
+use Rattle.theory.specs.Pattern.{Re, Numbered}
+use Rattle.theory.specs.Records.{Unlike}
+use Rattle.theory.proofs.Lines.{snoc-size, snoc-last}
+use Rattle.theory.proofs.Records.{search-records}
+use Rattle.grammar.specs.Grammar.{Alternation}
+use Rattle.grammar.specs.Limits.{Reads}
+use Rattle.grammar.specs.WriteOut.{writeOut}
+use Rattle.verdict.specs.Table.{records, slots, onto}
+use Rattle.verdict.specs.Checked.{alike, unlike, refused, by-reader}
+use Rattle.verdict.specs.Code.Found.{Found, same-cuts, first-witness, no-slot, no-room}
+use Rattle.verdict.proofs.Checked.{checked-exactly}
+use Rattle.arrays.specs.declared.Pattern.{Pattern}
+use Rattle.arrays.specs.Decoded.{decode}
+use Rattle.follow.specs.declared.Tables.{Tables}
+use Rattle.follow.specs.Rows.{Right}
+use Rattle.reader.specs.declared.Answer.the-variants.{Accepted}
+use Rattle.reader.specs.declared.Answer.the-variants as Answer
+use Rattle.reader.specs.declared.Reading.{Reading}
+use Rattle.reader.specs.Reading.{ReadRight}
+use Rattle.reader.proofs.Laws.{accepted-reads, accepted-leaves, accepted-holds, refused-fault}
+use Rattle.standing.specs.Stands.{Lent}
+use Rattle.standing.proofs.Lent.{lent}
+use Rattle.search.specs.declared.Progress.{Progress}
+use Rattle.search.specs.declared.Progress.the-variants.{Clear, Witness, Full}
+use Rattle.search.specs.Ends.{AllFound, WitnessFound, SlotsFull, Reached, Searched}
+use Rattle.checker.specs.declared.Verdict.{Verdict}
+use Rattle.checker.specs.declared.Verdict.the-variants.{Alike, Refused}
+use Rattle.checker.specs.Origins.{Line, Lined}
+use Rattle.checker.specs.Verdicts.{resultOf, Checks, Sound, Handed, given, too-long, Decides}
+use Rattle.checker.proofs.Origins.{line-one, record-line}
+
+-- The witness's record has its line.
+module _ (r : Re) (d : Numbered 0 r) {t₀ : List ℕ} {n : ℕ} {t : List ℕ} (x : WitnessFound r d t₀ n t) where
+  last-place : n - 1 ≡ length (x .lines)
+  last-place = omega (arith, x .size)
+
+  last-line : Line t (n - 1) (x .line)
+  last-line =
+      subst (λ k. Line t k (x .line)) (sym last-place)
+      (subst (Line t (length (x .lines))) (snoc-last (x .lines) (x .line)) (record-line r d (x .holds) (x .search) (length (x .lines)) (omega (arith, snoc-size (x .lines) (x .line)))))
+
+  pub last-lined : (0 < n) × Lined t (n - 1)
+  last-lined = (omega (arith, x .size), (x .line, last-line))
+
+  first : Unlike r (x .lines) (x .line)
+  first = record { records = search-records r d (x .search); none = x .none; witness = x .witness }
+
+  few : length (x .lines) < slots (length t₀)
+  few = omega (arith, x .holds .fits, snoc-size (x .lines) (x .line))
+
+module _ {p : List ℕ} {a : Alternation} (reads : Reads p a) (d : Numbered 0 (writeOut a)) {t v t′ : List ℕ} where
+  -- No witness: alike.
+  pub found-alike : {n : ℕ} → AllFound (writeOut a) t n t′ → Found p t v (alike n) t′ v
+  found-alike x = same-cuts reads (x .alike) (x .holds .fits) (ap alike (sym (x .size))) (x .holds .table) refl
+
+  -- No slot for the next record: 10.
+  pub found-full : SlotsFull (writeOut a) t t′ → Found p t v (refused 10 0) t′ v
+  found-full x = no-slot reads (x .full) (x .size) refl (x .holds .table) refl
+
+  -- A witness: unlike, or 11.
+  pub found-witness : {n : ℕ} {y : Verdict} {v′ : List ℕ} → WitnessFound (writeOut a) d t n t′ → Handed t′ n v y v′ → Found p t v (resultOf y) t′ v′
+  found-witness {n} x (given {w = w} l h) =
+      let e : w ≡ x .line = line-one l (last-line (writeOut a) d x) in
+      first-witness reads (first (writeOut a) d x) (few (writeOut a) d x) (subst (λ u. length u ≤ length v) e h) (ap₂ unlike (sym (x .size)) (ap length e)) (x .holds .table) (ap (onto v) e)
+  found-witness {n} x (too-long {w = w} l h) =
+      let e : w ≡ x .line = line-one l (last-line (writeOut a) d x) in
+      no-room reads (first (writeOut a) d x) (few (writeOut a) d x) (subst (λ u. length v < length u) e h) refl (x .holds .table) refl
+
+-- Of an accepted pattern's arrays, and what the search found with them.
+module _ (x : Pattern) (tables : Tables) (sound : Sound x) (right : Right (decode x) tables) (t : List ℕ) (p : Progress) (t′ : List ℕ)
+    (searched : Searched (x .masks) (tables .rows) (tables .lens) (tables .sets) (tables .ends) t p t′) where
+  lent-here : Lent (decode x) (x .masks) (tables .rows) (tables .lens) (tables .sets) (tables .ends)
+  lent-here = lent x tables right (sound .numbered) (sound .most) (sound .holds)
+
+  module _ (q : Progress) (e : p ≡ q) where
+    ends : (r : Re) (l : Lent r (x .masks) (tables .rows) (tables .lens) (tables .sets) (tables .ends)) → Reached r (l .numbered) t t′ (λ n. AllFound r t n t′) q
+    ends r l = subst (Reached r (l .numbered) t t′ (λ n. AllFound r t n t′)) e (searched r l)
+
+  lent-as : (a : Alternation) → decode x ≡ writeOut a → Lent (writeOut a) (x .masks) (tables .rows) (tables .lens) (tables .sets) (tables .ends)
+  lent-as a f = subst (λ r. Lent r (x .masks) (tables .rows) (tables .lens) (tables .sets) (tables .ends)) f lent-here
+
+  pub decides-alike : {n : ℕ} {v : List ℕ} → p ≡ Clear n → Decides x t v (Alike n) t′ v
+  decides-alike {n} e w a reads f = let l = lent-as a f in found-alike reads (l .numbered) (ends (Clear n) e (writeOut a) l)
+
+  pub decides-full : {v : List ℕ} → p ≡ Full → Decides x t v (Refused 10 0) t′ v
+  decides-full e w a reads f = let l = lent-as a f in found-full reads (l .numbered) (ends Full e (writeOut a) l)
+
+  pub decides-lined : {n : ℕ} → p ≡ Witness n → (0 < n) × Lined t′ (n - 1)
+  decides-lined {n} e = last-lined (decode x) (lent-here .numbered) (ends (Witness n) e (decode x) lent-here)
+
+  pub decides-witness : {n : ℕ} {y : Verdict} {v v′ : List ℕ} → p ≡ Witness n → Handed t′ n v y v′ → Decides x t v y t′ v′
+  decides-witness {n} e h w a reads f = let l = lent-as a f in found-witness reads (l .numbered) (ends (Witness n) e (writeOut a) l) h
+
+-- Of the reader's answer.
+module _ {p : List ℕ} {r : Reading} (h : ReadRight p r) where
+  pub accepted-sound : r .answer ≡ Accepted → Sound (r .pattern)
+  accepted-sound e = record { numbered = accepted-leaves h e .0; most = accepted-leaves h e .1; holds = accepted-holds h e }
+
+  pub checks-accepted : {t v t′ v′ : List ℕ} (y : Verdict) → r .answer ≡ Accepted → Decides (r .pattern) t v y t′ v′ → Checks p t v y t′ v′
+  checks-accepted {t} {v} {t′} {v′} y e d = let (a, reads, f) = accepted-reads h e in checked-exactly p t v (resultOf y) t′ v′ .1 (d p a reads f)
+
+  pub checks-refused : {t v : List ℕ} {n k : ℕ} → r .answer ≡ Answer.Refused n k → Checks p t v (Refused n k) t v
+  checks-refused e = by-reader (refused-fault h e)

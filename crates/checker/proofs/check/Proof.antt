@@ -1,0 +1,43 @@
+-- `checker::check` meets its contract: a refused pattern's answer is the reader's, and an accepted one's is decided by its arrays.
+-- Assumes nothing.
+use borrow.Author.Needs.{needs}
+use Rattle.checker.proofs.Decides.{accepted-sound, checks-accepted, checks-refused}
+use Rattle.checker.proofs.check.Statement.{statement}
+use Rattle.checker.proofs.check.Tie as tie
+
+read-requires : tie.Need-read-requires
+read-requires c κs = search needs
+
+enum-known-answer : tie.Need-enum-known-answer
+enum-known-answer c = search needs
+
+enum-told : tie.Need-enum-told
+enum-told c = search needs
+
+decide-requires : tie.Need-decide-requires
+decide-requires c κs = accepted-sound (c .before .before .before .before .before .read .ensures) (c .before .before .before .enum-told .given .1)
+
+same-length : tie.Need-same-length
+same-length c = search needs
+
+same-length-2 : tie.Need-same-length-2
+same-length-2 c = search needs
+
+returns : tie.Need-returns
+returns c = checks-accepted (c .before .before .before .before .before .before .before .before .before .before .read .ensures) (c .before .before .before .before .decide .result) (c .before .before .before .before .before .before .before .before .enum-told .given .1) (c .before .before .before .before .decide .ensures)
+
+returns-2 : tie.Need-returns-2
+returns-2 c = checks-refused (c .before .before .before .read .ensures) (c .before .answer .given .1)
+
+pub check-spec : {M : Type 1} → statement M
+check-spec =
+    tie.close
+    (tie.spec
+    read-requires
+    enum-known-answer
+    enum-told
+    decide-requires
+    same-length
+    same-length-2
+    returns
+    returns-2)

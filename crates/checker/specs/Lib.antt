@@ -1,0 +1,4 @@
+-- What the checker promises.
+pub mod Verdicts
+-- A line read back along the origin fields.
+pub mod Origins

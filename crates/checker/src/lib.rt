@@ -1,0 +1,99 @@
+// The checker: from a pattern's bytes, a table and a witness buffer of any lengths to a verdict. Paper 01, "Standings and their records" and "Refusals".
+ghost use Prim.Native.Nat.{_-_, _<_};
+ghost use Rattle.checker.specs.Verdicts.{Sound, Handed, Decides, Checks};
+ghost use Rattle.checker.specs.Origins.{Lined, Length, Fits, Written};
+use arrays::Pattern;
+use reader::Answer;
+use search::Progress;
+
+// The verdict, or the refusal with paper 01's number and place.
+pub enum Verdict {
+    // no line is cut differently: the number of records
+    Alike { count: usize },
+    // the number of records, and the length of the first line that is cut differently: it stands in the witness buffer
+    Unlike { count: usize, length: usize },
+    Refused { number: u8, place: usize },
+}
+
+// How many bytes the line of record k has: one for each step back to record 0.
+fn line_length(table: &[u8], k: usize) -> usize
+    requires { ⌜ Lined (now table) k ⌝ }
+    ensures { λ r. ⌜ Length (now (table .entry)) k r ⌝ }
+{
+    let mut k = k;
+    let mut n = 0;
+    while 0 < k {
+        k = table::origin(table, k);
+        n += 1;
+    }
+    n
+}
+
+// Writes the line of record k, of n bytes, to the start of the buffer: from its last byte on.
+fn write_line(table: &[u8], k: usize, n: usize, witness: &mut [u8])
+    requires { ⌜ Fits (now table) k n (now witness) ⌝ }
+    ensures { λ _. ⌜ Written (now (table .entry)) k (now (witness .entry)) (now (witness .exit)) ⌝ }
+{
+    let mut k = k;
+    let mut i = n;
+    while 0 < k {
+        i -= 1;
+        witness[i] = table::byte(table, k);
+        k = table::origin(table, k);
+    }
+}
+
+// The last of n records is the witness's: its line is handed over, if the buffer has room for it.
+fn hand_over(n: usize, table: &[u8], witness: &mut [u8]) -> Verdict
+    requires { ⌜ (0 < n) × Lined (now table) (n - 1) ⌝ }
+    ensures { λ r. ⌜ Handed (now (table .entry)) n (now (witness .entry)) r (now (witness .exit)) ⌝ }
+{
+    let last = n - 1;
+    let length = line_length(table, last);
+    if witness.len() < length {
+        return Verdict::Refused {
+            number: 11,
+            place: 0,
+        };
+    }
+    write_line(table, last, length, witness);
+    Verdict::Unlike {
+        count: n,
+        length: length,
+    }
+}
+
+// The verdict on the pattern whose arrays these are.
+fn decide(x: Pattern, table: &mut [u8], witness: &mut [u8]) -> Verdict
+    requires { ⌜ Sound x ⌝ }
+    ensures { λ r. ⌜ Decides x (now (table .entry)) (now (witness .entry)) r (now (table .exit)) (now (witness .exit)) ⌝ }
+{
+    let masks = x.masks;
+    let tables = follow::tables_of(x);
+    let rows = tables.rows;
+    let lens = tables.lens;
+    let sets = tables.sets;
+    let ends = tables.ends;
+    let found = search::search(table, &masks, &rows, &lens, &sets, &ends);
+    match found {
+        Progress::Clear(n) => Verdict::Alike { count: n },
+        Progress::Witness(n) => hand_over(n, table, witness),
+        Progress::Full => Verdict::Refused {
+            number: 10,
+            place: 0,
+        },
+    }
+}
+
+// Reads the pattern, and decides whether the two readings can ever differ. A refused pattern goes no further than the reader.
+pub fn check(pattern: &[u8], table: &mut [u8], witness: &mut [u8]) -> Verdict
+    ensures checked { λ r. ⌜ Checks (now (pattern .entry)) (now (table .entry)) (now (witness .entry)) r (now (table .exit)) (now (witness .exit)) ⌝ }
+{
+    let reading = reader::read(pattern);
+    let answer = reading.answer;
+    let Answer::Refused { number, place } = answer else {
+        let arrays = reading.pattern;
+        return decide(arrays, table, witness);
+    };
+    Verdict::Refused { number, place }
+}

@@ -1,0 +1,100 @@
+-- `records::with_order` meets its contract. The invariant: what is left to put in after i times four numbers completes the bytes of (a), and zeros stand there. The measure is the groups of four left.
+-- Assumes nothing.
+use borrow.Author.Needs.{needs}
+use native.Mathlib.Omega.{arith}
+use Prim.Native.Nat.{_+_, _-_, _*_, _≤_}
+use lib.ListN.{take, drop, replicate}
+use lib.Seq.{sets}
+use Rattle.records.specs.Bytes.{threes}
+use Rattle.records.proofs.Orders.{Zeros, put-more, zeros-more, put-done, zeros-blank}
+use mathlib.Core.Path.{_≡_, refl, sym, _∙_}
+use Rattle.records.proofs.with_order.Statement.{statement}
+use Rattle.records.proofs.with_order.Tie as tie
+
+abbrev Inv-loop : tie.InvT-loop
+Inv-loop list n v₀ i₀ v i = (i ≤ 16) × (sets v (13 + 3 * i) (threes (16 - i) (drop (4 * i) (take n list))) ≡ sets (replicate 64 0) 13 (threes 16 (take n list))) × Zeros (13 + 3 * i) v
+
+abbrev μ-loop : tie.MeasureT-loop
+μ-loop list n v₀ i₀ v i = 16 - i
+
+loop-holds : tie.Need-loop-holds Inv-loop μ-loop
+loop-holds c = (omega arith, refl, λ j h. zeros-blank 64 j)
+
+mul-loop : tie.Need-mul-loop Inv-loop μ-loop
+mul-loop c = search needs
+
+mul-j : tie.Need-mul-j Inv-loop μ-loop
+mul-j c = search needs
+
+mul-put-four : tie.Need-mul-put-four Inv-loop μ-loop
+mul-put-four c = search needs
+
+add-put-four : tie.Need-add-put-four Inv-loop μ-loop
+add-put-four c = search needs
+
+entry-requires : tie.Need-entry-requires Inv-loop μ-loop
+entry-requires c κs = search needs
+
+add-entry : tie.Need-add-entry Inv-loop μ-loop
+add-entry c = search needs
+
+entry-requires-2 : tie.Need-entry-requires-2 Inv-loop μ-loop
+entry-requires-2 c κs = search needs
+
+add-entry-2 : tie.Need-add-entry-2 Inv-loop μ-loop
+add-entry-2 c = search needs
+
+entry-requires-3 : tie.Need-entry-requires-3 Inv-loop μ-loop
+entry-requires-3 c κs = search needs
+
+add-entry-3 : tie.Need-add-entry-3 Inv-loop μ-loop
+add-entry-3 c = search needs
+
+entry-requires-4 : tie.Need-entry-requires-4 Inv-loop μ-loop
+entry-requires-4 c κs = search needs
+
+put-four-requires : tie.Need-put-four-requires Inv-loop μ-loop
+put-four-requires c κs = search needs
+
+add-i : tie.Need-add-i Inv-loop μ-loop
+add-i c = search needs
+
+loop-less : tie.Need-loop-less Inv-loop μ-loop
+loop-less c = search needs
+
+loop-again : tie.Need-loop-again Inv-loop μ-loop
+loop-again c =
+    let p = c .before .before .before .before .before .before .before .loop in
+    let a = c .before .before .before .before .before .before .before .before .args in
+    let e = rw (c .before .before .before .before .entry .ensures, c .before .before .before .entry2 .ensures, c .before .before .entry3 .ensures, c .before .entry4 .ensures) at (c .put-four .ensures) in
+    (omega arith, rw e (put-more (p .v) (take (a .n) (a .list .now)) (p .i) (omega arith) ∙ p .inv .1), rw e (zeros-more (p .v) (p .i) _ _ _ _ (p .inv .2)))
+
+returns : tie.Need-returns Inv-loop μ-loop
+returns c =
+    let p = c .before .loop in
+    let a = c .before .before .args in
+    sym (put-done (p .v) (a .list .now) (p .i) (a .n) (omega arith) (p .inv .2)) ∙ p .inv .1
+
+pub with-order-spec : {M : Type 1} → statement M
+with-order-spec =
+    tie.close
+    (tie.spec
+    Inv-loop
+    μ-loop
+    loop-holds
+    mul-loop
+    mul-j
+    mul-put-four
+    add-put-four
+    entry-requires
+    add-entry
+    entry-requires-2
+    add-entry-2
+    entry-requires-3
+    add-entry-3
+    entry-requires-4
+    put-four-requires
+    add-i
+    loop-less
+    loop-again
+    returns)

@@ -1,0 +1,95 @@
+-- What a byte leads to from a record: the cases of `carry`, by what the next standing, its record and the look are.
+-- Assumes nothing.
+use mathlib.Core.Path.{_≡_, sym, ap, _∙_, subst}
+use mathlib.Core.Logic.{_≢_}
+use Prim.Native.Nat.{ℕ, suc, _+_, _*_, _/_, _≤_, _<_, min}
+use mathlib.Core.Bool.{true, false, true≢false, not, _&&_}
+use mathlib.Core.List.{List}
+use native.Mathlib.Omega.{arith}
+use lib.ListN.{length}
+use lib.Seq.{sets as stores}
+use Rattle.theory.specs.Pattern.{Re, count}
+use Rattle.theory.specs.Standing.{standing, isWitness}
+use Rattle.theory.specs.Records.{at}
+use Rattle.theory.specs.Code.Next as Theory
+use Rattle.theory.proofs.Tests.{true-T, T-true}
+use Rattle.theory.proofs.Step.{step}
+use Rattle.verdict.specs.Record.{recordBytes}
+use Rattle.verdict.specs.Table.{slots}
+use Rattle.verdict.proofs.Tables.{slots-fit}
+use Rattle.standing.specs.declared.Standing.{Standing}
+use Rattle.standing.specs.Stands.{means, Lent, Carried}
+use Rattle.records.specs.Packing.{Packed}
+use Rattle.table.specs.Slots.{put, Looked}
+use Rattle.table.proofs.Laws.{slot-there}
+use Rattle.search.specs.declared.Progress.the-variants.{Clear, Witness, Full}
+use Rattle.search.specs.Ends.{WitnessFound}
+use Rattle.search.specs.Turns.{Working, Turned}
+use Rattle.search.proofs.Looks.{same-length, found, not-found}
+use Rattle.search.proofs.Turns.{line, known-turn, full-turn, new-turn, witness-turn}
+
+module _ (masks rows lens sets ends : List ℕ) (s after : Standing) (q c n m : ℕ) (t v : List ℕ) (k : ℕ)
+    (carried : Carried masks rows lens sets ends s c after) (packed : Packed after q c v) (looked : Looked t (min n (length t / 64)) v k) where
+  module _ (r : Re) (l : Lent r masks rows lens sets ends) (t₀ : List ℕ) (w : Working r (l .numbered) t₀ s q c n t) where
+    stands : means (count r) after ≡ standing r (line r (l .numbered) t₀ w)
+    stands =
+        carried r l (w .fine) .1
+        ∙ ap (λ z. Theory.next r z c) (w .stands)
+        ∙ sym (step r (l .numbered) (at (w .state .lines) q) c)
+
+    recorded : v ≡ recordBytes (standing r (line r (l .numbered) t₀ w)) q c
+    recorded = packed r (l .most) (carried r l (w .fine) .0) ∙ ap (λ z. recordBytes z q c) stands
+
+    shows : isWitness (standing r (line r (l .numbered) t₀ w)) ≡ (after .some && not (after .first))
+    shows = ap isWitness (sym stands)
+
+    look : Looked t (min n (length t / 64)) (recordBytes (standing r (line r (l .numbered) t₀ w)) q c) k
+    look = rw recorded at looked
+
+  -- A record has the standing.
+  pub carry-known : k < n → Turned (Unit {0}) masks rows lens sets ends s q c n m t (Clear n) t
+  carry-known h = record {
+    within = λ g. g;
+    leads = λ u r l t₀ e byte w.
+        known-turn r (l .numbered) t₀ w byte k h (found r (w .state .holds) (l .numbered) (l .most) (line r (l .numbered) t₀ w) q c (w .state .size) (look r l t₀ w) h);
+  }
+
+  module _ (h : n ≤ k) where
+    none : (r : Re) (l : Lent r masks rows lens sets ends) (t₀ : List ℕ) (w : Working r (l .numbered) t₀ s q c n t) → (j : ℕ) → j < n
+        → standing r (at (w .state .lines) j) ≢ standing r (line r (l .numbered) t₀ w)
+    none r l t₀ w = not-found r (w .state .holds) (l .numbered) (l .most) (line r (l .numbered) t₀ w) q c (w .state .size) (look r l t₀ w) h
+
+    -- None has, and no slot is left.
+    pub carry-full : m ≤ n → Turned (Unit {0}) masks rows lens sets ends s q c n m t Full t
+    carry-full g = record {
+      within = tt;
+      leads = λ u r l t₀ e byte w.
+          full-turn r (l .numbered) t₀ w byte (none r l t₀ w) (omega arith);
+    }
+
+    -- None has, and the next slot gets it.
+    module _ (g : n < m) (t′ : List ℕ) (stored : t′ ≡ put t n v) where
+      module _ (r : Re) (l : Lent r masks rows lens sets ends) (t₀ : List ℕ) (e : m ≡ slots (length t₀)) (w : Working r (l .numbered) t₀ s q c n t) where
+        written : t′ ≡ stores t (64 * n) (recordBytes (standing r (line r (l .numbered) t₀ w)) q c)
+        written =
+            stored
+            ∙ slot-there t n _ t (omega (arith, same-length r (w .state .holds), slots-fit (length t₀)))
+            ∙ ap (stores t (64 * n)) (recorded r l t₀ w)
+
+      pub carry-new : (after .some && not (after .first)) ≡ false → Turned (Unit {0}) masks rows lens sets ends s q c n m t (Clear (n + 1)) t′
+      carry-new f = record {
+        within = λ i. omega arith;
+        leads = λ u r l t₀ e byte w.
+            let more : suc n ≡ n + 1 = omega arith in
+            subst (λ x. Working r (l .numbered) t₀ s q (suc c) x t′) more
+            (new-turn r (l .numbered) t₀ w byte (none r l t₀ w) (omega arith) (written r l t₀ e w) (λ i. true≢false (sym (T-true _ i) ∙ shows r l t₀ w ∙ f)));
+      }
+
+      pub carry-witness : (after .some && not (after .first)) ≡ true → Turned (Unit {0}) masks rows lens sets ends s q c n m t (Witness (n + 1)) t′
+      carry-witness f = record {
+        within = tt;
+        leads = λ u r l t₀ e byte w.
+            let more : suc n ≡ n + 1 = omega arith in
+            subst (λ x. WitnessFound r (l .numbered) t₀ x t′) more
+            (witness-turn r (l .numbered) t₀ w byte (none r l t₀ w) (omega arith) (written r l t₀ e w) (true-T _ (shows r l t₀ w ∙ f)));
+      }

@@ -1,0 +1,8 @@
+-- The look through the table.
+pub mod Looks
+-- One turn of the search, case by case.
+mod Turns
+mod Carries
+-- Its loops.
+mod Works
+mod Begins

@@ -1,0 +1,176 @@
+-- One turn of the search, case by case: what the table then holds, and where the search then stands.
+-- Assumes nothing.
+use mathlib.Core.Path.{_≡_, refl, sym, ap, ap₂, _∙_, subst}
+use mathlib.Core.Logic.{_≢_}
+use Prim.Native.Nat.{ℕ, zero, suc, _+_, _*_, _≤_, _<_}
+use mathlib.Core.List.{List, [], _∷_, _++_, append-nil}
+use native.Mathlib.Omega.{arith}
+use lib.ListN.{length}
+use lib.Seq.{sets}
+use lib.Dec.{T}
+use Rattle.theory.specs.Pattern.{Re, Numbered, SameGroup}
+use Rattle.theory.specs.Standing.{standing, isWitness}
+use Rattle.theory.specs.Records.{at}
+use Rattle.theory.proofs.Lines.{snoc-size, snoc-each, snoc-old, snoc-last, below-snoc}
+use Rattle.theory.proofs.Search.{begin, known, new, turn, trace-bytes}
+use Rattle.theory.proofs.Records.{carries, Search, search-records, search-complete}
+use Rattle.theory.proofs.Run.{start-no-witness}
+use Rattle.theory.proofs.Groups.{pass-over}
+use Rattle.verdict.specs.Record.{recordBytes}
+use Rattle.verdict.specs.Table.{recordOf, recordsOf, records, slots, onto}
+use Rattle.verdict.proofs.Tables.{records-size, record-64, records-add, record-is, record-zero, onto-more, slots-fit, onto-sets}
+use Rattle.standing.specs.declared.Standing.{Standing}
+use Rattle.search.specs.Ends.{Holds, AllFound, WitnessFound, SlotsFull}
+use Rattle.search.specs.Turns.{Searching, Working}
+
+-- The table with one record, and with none.
+one-record : (r : Re) (t₀ : List ℕ) → 0 < slots (length t₀) → onto t₀ (records r ([] ∷ [])) ≡ sets t₀ 0 (recordBytes (standing r []) 0 0)
+unfolding recordsOf
+one-record r t₀ h =
+    ap (onto t₀) (append-nil _ ∙ record-zero r [])
+    ∙ onto-sets t₀ (recordBytes (standing r []) 0 0) (omega (arith, record-64 (standing r []) 0 0, slots-fit (length t₀)))
+
+no-record : (r : Re) (t₀ : List ℕ) → t₀ ≡ onto t₀ (records r [])
+unfolding recordsOf
+no-record r t₀ = refl
+
+module _ (r : Re) (d : Numbered 0 r) (t₀ : List ℕ) where
+  -- The line that the byte c makes of line q.
+  abbrev pub line : {s : Standing} {q c n : ℕ} {t : List ℕ} → Working r d t₀ s q c n t → List ℕ
+  line {q = q} {c = c} w = at (w .state .lines) q ++ (c ∷ [])
+
+  module _ {s : Standing} {q c n : ℕ} {t : List ℕ} (w : Working r d t₀ s q c n t) (byte : c < 256) where
+    here : q < length (w .state .lines)
+    here = omega (arith, w .inside, w .state .size)
+
+    keeps : Search r d (w .state .lines) q (suc c) → Working r d t₀ s q (suc c) n t
+    keeps x = record {
+      state = record { lines = w .state .lines; size = w .state .size; holds = w .state .holds; none = w .state .none; search = x };
+      inside = w .inside;
+      fine = w .fine;
+      stands = w .stands;
+    }
+
+    -- A record has the standing,
+    pub known-turn : (k : ℕ) → k < n → standing r (at (w .state .lines) k) ≡ standing r (line w) → Working r d t₀ s q (suc c) n t
+    known-turn k l e = keeps (known (w .state .search) here byte k (omega (arith, w .state .size)) e)
+
+    -- or the byte's group has a lower one.
+    pub passed-turn : (b : ℕ) → b < c → SameGroup r b c → Working r d t₀ s q (suc c) n t
+    passed-turn b l g = keeps (pass-over r d (w .state .search) here byte b l g)
+
+    module _ (fresh : (k : ℕ) → k < n → standing r (at (w .state .lines) k) ≢ standing r (line w)) where
+      grown : Search r d (w .state .lines ++ (line w ∷ [])) q (suc c)
+      grown = new (w .state .search) here byte λ k l. fresh k (omega (arith, w .state .size))
+
+      -- No slot is left.
+      pub full-turn : slots (length t₀) ≤ n → SlotsFull r t₀ t
+      full-turn h = record {
+        lines = w .state .lines;
+        size = omega (arith, w .state .size, w .state .holds .fits);
+        holds = w .state .holds;
+        full = record {
+          records = search-records r d (w .state .search);
+          none = w .state .none;
+          more = (line w, below-snoc 256 (at (w .state .lines) q) c (trace-bytes (standing r) (carries r d) 256 (w .state .search) q here) byte, λ k l. fresh k (omega (arith, w .state .size)));
+        };
+      }
+
+      module _ (room : n < slots (length t₀)) {t′ : List ℕ} (stored : t′ ≡ sets t (64 * n) (recordBytes (standing r (line w)) q c)) where
+        more : length (w .state .lines ++ (line w ∷ [])) ≡ suc n
+        more = omega (arith, snoc-size (w .state .lines) (line w), w .state .size)
+
+        added : Holds r t₀ (w .state .lines ++ (line w ∷ [])) t′
+        added =
+            let L = w .state .lines in
+            let u = line w in
+            let old : standing r (at (L ++ (u ∷ [])) q) ≡ standing r (at L q) = ap (standing r) (snoc-old L u q here) in
+            let new-record : recordOf r (L ++ (u ∷ [])) u ≡ recordBytes (standing r u) q c = record-is r (search-records r d grown) (at L q) c q (omega (arith, here, snoc-size L u)) old in
+            let size : length (records r L) ≡ 64 * n = records-size r L L ∙ ap (λ k. 64 * k) (w .state .size) in
+            let space : length (records r L) + length (recordBytes (standing r u) q c) ≤ length t₀ = omega (arith, size, record-64 (standing r u) q c, slots-fit (length t₀), room) in
+            record {
+              fits = omega (arith, more, room);
+              table =
+                  stored
+                  ∙ ap₂ (λ a k. sets a k (recordBytes (standing r u) q c)) (w .state .holds .table) (sym size)
+                  ∙ sym (onto-more t₀ (records r L) (recordBytes (standing r u) q c) space)
+                  ∙ ap (λ x. onto t₀ (records r L ++ x)) (sym new-record)
+                  ∙ ap (onto t₀) (sym (records-add r u (search-records r d (w .state .search))));
+            }
+
+        -- A new record, no witness's,
+        pub new-turn : (T (isWitness (standing r (line w))) → ⊥) → Working r d t₀ s q (suc c) (suc n) t′
+        new-turn h = record {
+          state = record {
+            lines = w .state .lines ++ (line w ∷ []);
+            size = more;
+            holds = added;
+            none = snoc-each (w .state .lines) (line w) (λ k. T (isWitness (standing r (at (w .state .lines ++ (line w ∷ [])) k))) → ⊥)
+                (λ k l i. w .state .none k l (rw (snoc-old (w .state .lines) (line w) k l) at i))
+                (λ i. h (rw (snoc-last (w .state .lines) (line w)) at i));
+            search = grown;
+          };
+          inside = omega (arith, w .inside);
+          fine = w .fine;
+          stands = w .stands ∙ ap (standing r) (sym (snoc-old (w .state .lines) (line w) q here));
+        }
+
+        -- or a witness's.
+        pub witness-turn : T (isWitness (standing r (line w))) → WitnessFound r d t₀ (suc n) t′
+        witness-turn h = record {
+          lines = w .state .lines;
+          line = line w;
+          size = ap suc (w .state .size);
+          holds = added;
+          none = w .state .none;
+          witness = h;
+          q = q;
+          c = suc c;
+          search = grown;
+        }
+
+  -- Record q is carried on by all bytes.
+  pub next-record : {s : Standing} {q n : ℕ} {t : List ℕ} → Working r d t₀ s q 256 n t → Searching r d t₀ (suc q) 0 n t
+  next-record w = record {
+    lines = w .state .lines;
+    size = w .state .size;
+    holds = w .state .holds;
+    none = w .state .none;
+    search = turn (w .state .search) (omega (arith, w .inside, w .state .size));
+  }
+
+  -- All records are.
+  pub all-found : {n : ℕ} {t : List ℕ} → Searching r d t₀ n 0 n t → AllFound r t₀ n t
+  all-found x = record {
+    lines = x .lines;
+    size = x .size;
+    holds = x .holds;
+    alike = record {
+      records = search-records r d (x .search);
+      complete = search-complete r d (subst (λ k. Search r d (x .lines) k 0) (sym (x .size)) (x .search));
+      none = x .none;
+    };
+  }
+
+  -- The empty line's record stands in slot 0,
+  pub first-record : {t : List ℕ} → 0 < slots (length t₀) → t ≡ sets t₀ 0 (recordBytes (standing r []) 0 0) → Searching r d t₀ 0 0 1 t
+  first-record h e = record {
+    lines = [] ∷ [];
+    size = refl;
+    holds = record { fits = h; table = e ∙ sym (one-record r t₀ h) };
+    none = λ k. elim k [ zero ↦ λ l i. start-no-witness r i | suc m ↦ λ l. absurd (omega arith) ];
+    search = begin;
+  }
+
+  -- if there is one.
+  pub no-slot : slots (length t₀) ≡ 0 → SlotsFull r t₀ t₀
+  no-slot h = record {
+    lines = [];
+    size = sym h;
+    holds = record { fits = omega arith; table = no-record r t₀ };
+    full = record {
+      records = record { bytes = λ k l. absurd (omega arith); before = λ k l. absurd (omega arith); fresh = λ j k o l. absurd (omega arith) };
+      none = λ k l. absurd (omega arith);
+      more = ([], tt, λ k l. absurd (omega arith));
+    };
+  }

@@ -1,0 +1,4 @@
+-- Where a search ends.
+pub mod Ends
+-- The search on its way, turn by turn.
+pub mod Turns

@@ -1,0 +1,216 @@
+// The search through a pattern's standings. The table is the queue: each record in turn is carried on by each byte, upwards, and a standing that no record has gets the next slot.
+// It ends when no record is left, at the first witness, or when a record is needed and no slot is left.
+ghost use mathlib.Core.Path.{_≡_};
+ghost use mathlib.Core.Bool.{not, _&&_};
+ghost use Prim.Native.Nat.{_≤_, _<_, min};
+ghost use lib.ListN.{getD};
+ghost use lib.Dec.{eqb};
+ghost use Rattle.verdict.specs.Table.{slots};
+ghost use Rattle.search.specs.Ends.{Searched};
+ghost use Rattle.search.specs.Turns.{Turned, Grouping, Worked, Run};
+use standing::Standing;
+
+// How far the search has come.
+pub enum Progress {
+    // that many records, and no witness among them
+    Clear(usize),
+    // that many records, and the last is the witness's
+    Witness(usize),
+    // no slot for the next record
+    Full,
+}
+
+fn wide(x: u8) -> usize
+    ensures { λ r. ⌜ (r ≡ x) × (r < 256) ⌝ }
+{
+    x as usize
+}
+
+fn least(a: usize, b: usize) -> usize
+    ensures { λ r. ⌜ r ≡ min a b ⌝ }
+{
+    if a < b { a } else { b }
+}
+
+fn slots_of(len: usize) -> usize
+    ensures { λ r. ⌜ (r ≡ slots len) × (r ≤ 65535) ⌝ }
+{
+    least(len / 64, 65535)
+}
+
+// (d) without (b).
+fn is_witness(first: bool, some: bool) -> bool
+    ensures { λ r. ⌜ r ≡ (some && not first) ⌝ }
+{
+    some && !first
+}
+
+// Whether the byte c is the lowest of its group: the others lead nowhere else.
+fn leads(c: u8, group: &[u8; 256], lowest: &[u8; 256]) -> bool
+    ensures { λ r. ⌜ r ≡ eqb (getD (now (lowest .entry)) (getD (now (group .entry)) c 0) 0) c ⌝ }
+{
+    lowest[wide(group[wide(c)])] == c
+}
+
+// Record q, whose standing is s, carried on by the byte c. The table has n records, and so many slots.
+fn carry<'a>(
+    table: &mut [u8],
+    s: Standing,
+    q: usize,
+    c: u8,
+    n: usize,
+    slots: usize,
+    masks: &'a [u64; 256],
+    rows: &'a [u8; 4225],
+    lens: &'a [u8; 65],
+    sets: &'a [u64; 65],
+    ends: &'a [u8; 65],
+) -> Progress
+    ensures { λ r. ⌜ Turned (Unit {0}) (now (masks .entry)) (now (rows .entry)) (now (lens .entry)) (now (sets .entry)) (now (ends .entry)) s q c n slots (now (table .entry)) r (now (table .exit)) ⌝ }
+{
+    let after = s.next(c, masks, rows, lens, sets, ends);
+    let v = records::pack(after, q, c);
+    if table::find(table, n, &v) < n {
+        return Progress::Clear(n);
+    }
+    if slots <= n {
+        return Progress::Full;
+    }
+    table::store(table, n, &v);
+    if is_witness(after.first, after.some) {
+        return Progress::Witness(n + 1);
+    }
+    Progress::Clear(n + 1)
+}
+
+// The same for a byte that leads its group; another leads nowhere else.
+fn turn<'a>(
+    table: &mut [u8],
+    s: Standing,
+    q: usize,
+    c: u8,
+    n: usize,
+    slots: usize,
+    group: &'a [u8; 256],
+    lowest: &'a [u8; 256],
+    masks: &'a [u64; 256],
+    rows: &'a [u8; 4225],
+    lens: &'a [u8; 65],
+    sets: &'a [u64; 65],
+    ends: &'a [u8; 65],
+) -> Progress
+    ensures { λ r. ⌜ Turned (Grouping (now (masks .entry)) (now (group .entry)) (now (lowest .entry))) (now (masks .entry)) (now (rows .entry)) (now (lens .entry)) (now (sets .entry)) (now (ends .entry)) s q c n slots (now (table .entry)) r (now (table .exit)) ⌝ }
+{
+    if leads(c, group, lowest) {
+        return carry(table, s, q, c, n, slots, masks, rows, lens, sets, ends);
+    }
+    Progress::Clear(n)
+}
+
+// Record q carried on by each byte, upwards.
+fn work<'a>(
+    table: &mut [u8],
+    q: usize,
+    n: usize,
+    slots: usize,
+    group: &'a [u8; 256],
+    lowest: &'a [u8; 256],
+    masks: &'a [u64; 256],
+    rows: &'a [u8; 4225],
+    lens: &'a [u8; 65],
+    sets: &'a [u64; 65],
+    ends: &'a [u8; 65],
+) -> Progress
+    ensures { λ r. ⌜ Worked (Grouping (now (masks .entry)) (now (group .entry)) (now (lowest .entry))) (now (masks .entry)) (now (rows .entry)) (now (lens .entry)) (now (sets .entry)) (now (ends .entry)) q n slots (now (table .entry)) r (now (table .exit)) ⌝ }
+{
+    let s = records::unpack(table::load(table, q));
+    let mut n = n;
+    let mut c = 0usize;
+    while c < 256 {
+        let p = turn(
+            table,
+            s,
+            q,
+            c as u8,
+            n,
+            slots,
+            group,
+            lowest,
+            masks,
+            rows,
+            lens,
+            sets,
+            ends,
+        );
+        let Progress::Clear(k) = p else {
+            return p;
+        };
+        n = k;
+        c += 1;
+    }
+    Progress::Clear(n)
+}
+
+// From record 0 on, each record in turn.
+fn run<'a>(
+    table: &mut [u8],
+    slots: usize,
+    group: &'a [u8; 256],
+    lowest: &'a [u8; 256],
+    masks: &'a [u64; 256],
+    rows: &'a [u8; 4225],
+    lens: &'a [u8; 65],
+    sets: &'a [u64; 65],
+    ends: &'a [u8; 65],
+) -> Progress
+    requires { ⌜ (0 < slots) × (slots ≤ 65535) ⌝ }
+    ensures { λ r. ⌜ Run (Grouping (now (masks .entry)) (now (group .entry)) (now (lowest .entry))) (now (masks .entry)) (now (rows .entry)) (now (lens .entry)) (now (sets .entry)) (now (ends .entry)) slots (now (table .entry)) r (now (table .exit)) ⌝ }
+{
+    let mut n = 1;
+    let mut q = 0;
+    while q < n {
+        let p = work(
+            table,
+            q,
+            n,
+            slots,
+            group,
+            lowest,
+            masks,
+            rows,
+            lens,
+            sets,
+            ends,
+        );
+        let Progress::Clear(k) = p else {
+            return p;
+        };
+        n = k;
+        q += 1;
+    }
+    Progress::Clear(n)
+}
+
+// Searches the standings of the pattern whose masks and follow tables are lent. Slots that are not needed, and bytes after the last slot, are kept.
+pub fn search<'a>(
+    table: &mut [u8],
+    masks: &'a [u64; 256],
+    rows: &'a [u8; 4225],
+    lens: &'a [u8; 65],
+    sets: &'a [u64; 65],
+    ends: &'a [u8; 65],
+) -> Progress
+    ensures searched { λ r. ⌜ Searched (now (masks .entry)) (now (rows .entry)) (now (lens .entry)) (now (sets .entry)) (now (ends .entry)) (now (table .entry)) r (now (table .exit)) ⌝ }
+{
+    let slots = slots_of(table.len());
+    if slots == 0 {
+        return Progress::Full;
+    }
+    let g = groups::groups_of(masks);
+    let group = g.group;
+    let lowest = g.lowest;
+    let s = Standing::initial(masks, rows, lens, sets, ends);
+    let v = records::pack(s, 0, 0);
+    table::store(table, 0, &v);
+    run(table, slots, &group, &lowest, masks, rows, lens, sets, ends)
+}

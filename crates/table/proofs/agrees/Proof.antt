@@ -1,0 +1,32 @@
+-- `table::agrees` meets its contract: where the first run is equal the second tells, and where it is not the slot does not agree.
+-- Assumes nothing.
+use native.Mathlib.Omega.{arith}
+use borrow.Author.Needs.{needs}
+use Rattle.table.proofs.Runs.{tells-no, agree-front, back-tells}
+use Rattle.table.proofs.agrees.Statement.{statement}
+use Rattle.table.proofs.agrees.Tie as tie
+
+equal-run-requires : tie.Need-equal-run-requires
+equal-run-requires c κs = search needs
+
+size-requires : tie.Need-size-requires
+size-requires c κs = search needs
+
+equal-run-requires-2 : tie.Need-equal-run-requires-2
+equal-run-requires-2 c κs = search needs
+
+returns : tie.Need-returns
+returns c =
+    let a = c .before .before .before .before .before .args in
+    let n = c .before .size in
+    let low = c .before .before .before .equal-run .ensures .holds (c .before .before .if1 .taken) in
+    back-tells (a .table .now) (a .at) (a .v .now) (n .result) (omega arith) (n .ensures .0) (n .ensures .1) low (c .equal-run2 .ensures)
+
+returns-2 : tie.Need-returns-2
+returns-2 c =
+    let a = c .before .before .before .args in
+    tells-no λ g. c .before .equal-run .ensures .fails (c .if1 .left) (agree-front (a .table .now) (a .at) (a .v .now) g)
+
+pub agrees-spec : {M : Type 1} → statement M
+agrees-spec =
+    tie.close (tie.spec equal-run-requires size-requires equal-run-requires-2 returns returns-2)

@@ -1,0 +1,62 @@
+-- `table::origin` meets its contract: at each return the guard says whether the table has the slot.
+-- Assumes nothing.
+use mathlib.Core.Path.{sym}
+use Prim.Native.Nat.{_+_, _*_}
+use native.Mathlib.Omega.{arith}
+use borrow.Author.Needs.{needs}
+use lib.ListN.{getD}
+use Rattle.table.proofs.Laws.{slot-there, slot-missing}
+use Rattle.table.proofs.origin.Statement.{statement}
+use Rattle.table.proofs.origin.Tie as tie
+
+returns : tie.Need-returns
+returns c = let a = c .before .before .args in sym (slot-missing (a .table .now) (a .k) _ _ (omega arith))
+
+mul-at : tie.Need-mul-at
+mul-at c = search needs
+
+add-wide : tie.Need-add-wide
+add-wide c = search needs
+
+shared-slice-read-wide : tie.Need-shared-slice-read-wide
+shared-slice-read-wide c = search needs
+
+wide-requires : tie.Need-wide-requires
+wide-requires c κs = search needs
+
+mul-result : tie.Need-mul-result
+mul-result c = search needs
+
+add-wide-2 : tie.Need-add-wide-2
+add-wide-2 c = search needs
+
+shared-slice-read-wide-2 : tie.Need-shared-slice-read-wide-2
+shared-slice-read-wide-2 c = search needs
+
+wide-requires-2 : tie.Need-wide-requires-2
+wide-requires-2 c κs = search needs
+
+add-result : tie.Need-add-result
+add-result c = search needs
+
+returns-2 : tie.Need-returns-2
+returns-2 c =
+    let a = c .before .before .before .before .before .before .args in
+    let e = slot-there (a .table .now) (a .k) (256 * getD (a .table .now) (64 * a .k + 10) 0 + getD (a .table .now) (64 * a .k + 11) 0) 0 (omega arith) in
+    omega arith
+
+pub origin-spec : {M : Type 1} → statement M
+origin-spec =
+    tie.close
+    (tie.spec
+    returns
+    mul-at
+    add-wide
+    shared-slice-read-wide
+    wide-requires
+    mul-result
+    add-wide-2
+    shared-slice-read-wide-2
+    wide-requires-2
+    add-result
+    returns-2)
