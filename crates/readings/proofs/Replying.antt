@@ -1,12 +1,12 @@
 -- What is replied is what is due.
 -- Assumes nothing.
 use mathlib.Core.Path.{_≡_, refl, subst}
-use Prim.Native.Nat.{ℕ, suc, _<_}
-use mathlib.Core.List.{List, [], _∷_}
+use Prim.Native.Nat.{ℕ, _<_}
+use mathlib.Core.List.{List}
 use native.Mathlib.Omega.{arith}
 use lib.ListN.{getD}
 use Rattle.theory.specs.Spans.{nowhere}
-use Rattle.theory.specs.Lines.{Below}
+use Rattle.theory.proofs.Lines.{below-each}
 use Rattle.grammar.specs.WriteOut.{writeOut}
 use Rattle.grammar.specs.Refusals as Due
 use Rattle.arrays.specs.declared.Pattern.{Pattern}
@@ -36,11 +36,6 @@ module _ (w : List ℕ) (x : Pattern) (s : Spans) where
   beside Accepted h = tt
   beside (Refused n q) h = h n q refl
 
--- A line of a byte slice is a line of bytes.
-below : (w : List ℕ) → ((i : ℕ) → getD w i 0 < 256) → Below 256 w
-below [] h = tt
-below (b ∷ w) h = (h 0, below w (λ i. h (suc i)))
-
 apart : {c : Answer} {n q : ℕ} → c ≡ Accepted → c ≡ Refused n q → ⊥
 apart e f = absurd (let z : _≡_ {A = ℕ} 0 1 = cc in omega arith)
 
@@ -56,7 +51,7 @@ replied {p} {w} r s h a b = record {
 
 -- THE REPLY IS THE ONE DUE: of an accepted pattern both spans by its arrays,
 pub replied-accepted : {p w : List ℕ} (r : Reading) (s : Spans) → ReadRight p r → r .answer ≡ Accepted → CutBy (r .pattern) w s → ((i : ℕ) → getD w i 0 < 256) → Replied p w (record { answer = r .answer; spans = s })
-replied-accepted {w = w} r s h e k l = replied r s h (λ f. k (accepted-leaves h e .0) (accepted-leaves h e .1) (accepted-holds h e) (below w l)) (λ n q f. absurd (apart e f))
+replied-accepted {w = w} r s h e k l = replied r s h (λ f. k (accepted-leaves h e .0) (accepted-leaves h e .1) (accepted-holds h e) (below-each 256 w l)) (λ n q f. absurd (apart e f))
 
 -- and of a refused one none.
 pub replied-refused : {p w : List ℕ} {n q : ℕ} (r : Reading) → ReadRight p r → r .answer ≡ Refused n q

@@ -1,17 +1,18 @@
 -- Demand 2: what the two spans are, by the matching relation.
 -- Assumes nothing.
 use mathlib.Core.Path.{_≡_, refl, sym, ap, _∙_, subst}
-use mathlib.Core.Logic.{_⊎_, inl, inr, _↔_}
+use mathlib.Core.Logic.{_⊎_, _↔_}
 use Prim.Native.Nat.{ℕ, zero, suc, _+_, _≤_, _<_}
 use mathlib.Core.List.{List}
 use mathlib.Core.Option.{Option, none, some}
 use native.Mathlib.Omega.{arith}
+use native.Mathlib.Decide.{decLt}
 use native.Mathlib.Decide.{ℕ-discrete}
 use lib.ListN.{length}
 use Rattle.theory.specs.Pattern.{Re}
 use Rattle.theory.specs.Outcomes.{outcomes}
 use Rattle.theory.specs.Matching.{Matches}
-use Rattle.theory.specs.Spans.{firstEnd, greatestEnd, Span, nowhere, span, spanOr, leftmost, greedy, posix}
+use Rattle.theory.specs.Spans.{firstEnd, greatestEnd, nowhere, span, spanOr, leftmost, greedy, posix}
 use Rattle.theory.specs.Preference.{LeastEnd, Prefer}
 use Rattle.theory.specs.Demand.{LeftmostStart, PosixTakes, GreedyTakes, NoMatch}
 use Rattle.theory.proofs.Tests.{either}
@@ -146,3 +147,16 @@ module _ (r : Re) (w : List ℕ) where
   pub posix-none : (posix r w ≡ nowhere) ↔ NoMatch r w
   unfolding posix
   posix-none = nowhere-iff Longer greatest (greatest-least r w)
+
+  -- BOTH SPANS BEGIN AT ONE START, or neither is there.
+  pub one-start : {i j m k : ℕ} → greedy r w ≡ span i j → posix r w ≡ span m k → i ≡ m
+  one-start {i} {j} {m} {k} e f =
+      let a = greedy-takes i j .0 e in
+      let b = posix-takes m k .0 f in
+      elim (decLt i m) [
+        | yes h ↦ absurd (b .start .leftmost i j h (a .end))
+        | no h ↦ elim (decLt m i) [ yes g ↦ absurd (a .start .leftmost m k g (b .end)) | no g ↦ omega arith ]
+      ]
+
+  pub both-none : (greedy r w ≡ nowhere) ↔ (posix r w ≡ nowhere)
+  both-none = (λ e. posix-none .1 (greedy-none .0 e), λ e. greedy-none .1 (posix-none .0 e))

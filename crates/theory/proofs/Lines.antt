@@ -6,7 +6,7 @@ use Prim.Native.Nat.{ℕ, suc, _<_}
 use mathlib.Core.List.{List, [], _∷_, _++_}
 use native.Mathlib.Omega.{arith}
 use native.Mathlib.Decide.{decLt}
-use lib.ListN.{length, length-append, List·getD-append}
+use lib.ListN.{length, getD, length-append, List·getD-append}
 use lib.Seq.{getD-append-seam}
 use Rattle.theory.specs.Lines.{Below, Lex, _≺_}
 use Rattle.theory.specs.Records.{at}
@@ -155,3 +155,8 @@ module _ (L : List (List ℕ)) (x : List ℕ) where
         | yes c ↦ f k c
         | no c ↦ let e : length L ≡ k = omega (arith, snoc-size) in subst P e p
       ]
+
+-- A line is one of numbers below n if each of its places has one.
+pub below-each : (n : ℕ) (w : List ℕ) → ((i : ℕ) → getD w i 0 < n) → Below n w
+below-each n [] h = tt
+below-each n (b ∷ w) h = (h 0, below-each n w λ i. h (suc i))

@@ -1,0 +1,136 @@
+-- What is appended to a buffer: one text after another, nothing, a byte, and a text past the end. Bytes in hex. A number has one text.
+-- Assumes nothing.
+use mathlib.Core.Path.{_≡_, refl, sym, ap, _∙_}
+use Prim.Native.Nat.{ℕ, _+_, _-_, _≤_, _<_, _/_, _%_, _^_, min}
+use mathlib.Core.Bool.{Bool, true, false, not}
+use mathlib.Core.List.{List, [], _∷_, _++_, append-assoc, append-nil}
+use native.Mathlib.Omega.{arith}
+use native.Mathlib.Numerals.{add-one}
+use native.Mathlib.Nat.{pow-le-pow-right}
+use lib.Dec.{T, leb, leb→le, nleb→lt}
+use lib.ListN.{length, take, getD, set, length-append, length-take, length-set}
+use lib.Seq.{take-all, take-append-le, take-suc, take-suc-set, take-take, length-take-le}
+use Rattle.io.specs.Digits.{glyph, digits, Fewest}
+use Rattle.printing.specs.Text.{Field, hex}
+use Rattle.printing.specs.Puts.{Put}
+
+-- A part of x that is cut off does not count past the first m bytes.
+take-cut : (k m : ℕ) (x y : List ℕ) → (k < length x → m ≤ k) → take m (take k x ++ y) ≡ take m (x ++ y)
+take-cut k m x y h = go (leb (length x) k) (leb→le (length x) k) (nleb→lt (length x) k)
+  where
+    go : (b : Bool) → (T b → length x ≤ k) → (T (not b) → k < length x) → take m (take k x ++ y) ≡ take m (x ++ y)
+    go true p q = ap (λ l. take m (l ++ y)) (take-all k x (p tt))
+    go false p q =
+        let s = q tt in
+        let t : m ≤ k = h s in
+        let e : length (take k x) ≡ k = length-take-le k x (omega arith) in
+        take-append-le m (take k x) y (omega arith) ∙ take-take m k x t ∙ sym (take-append-le m x y (omega arith))
+
+-- Two appendings, one after the other, are the appending of the joined text.
+pub appended-join : {a b c : List ℕ} {n m k : ℕ} {v w : List ℕ} → Put a n v b m → Put b m w c k → Put a n (v ++ w) c k
+appended-join {a} {b} {c} {n} {m} {k} {v} {w} f g =
+    let s : m ≡ min (length a) (n + length v) = f .appended .size in
+    let t : k ≡ min (length b) (m + length w) = g .appended .size in
+    let l : length (v ++ w) ≡ length v + length w = length-append v w in
+    let p : length (take n a) ≡ min n (length a) = length-take n a in
+    let q : length (take n a ++ v) ≡ length (take n a) + length v = length-append (take n a) v in
+    record {
+      kept = g .kept ∙ f .kept;
+      appended =
+          record {
+            size = omega (arith, f .kept);
+            text =
+                g .appended .text
+                ∙ ap (λ x. take k (x ++ w)) (f .appended .text)
+                ∙ take-cut m k (take n a ++ v) w (λ h. omega (arith, f .kept))
+                ∙ ap (λ x. take k x) (append-assoc (take n a) v w);
+          };
+    }
+
+pub put-none : (a : List ℕ) (n m : ℕ) → m ≡ min n (length a) → Put a n [] a m
+put-none a n m e =
+    record {
+      kept = refl;
+      appended =
+          record {
+            size = omega arith;
+            text = rw append-nil (sym (take-take m n a (omega arith)));
+          };
+    }
+
+pub put-one : (a : List ℕ) (n b : ℕ) → n < length a → Put a n (b ∷ []) (set a n b) (n + 1)
+put-one a n b h =
+    let l : length (take n a ++ (b ∷ [])) ≡ length (take n a) + 1 = length-append (take n a) (b ∷ []) in
+    let p : length (take n a) ≡ min n (length a) = length-take n a in
+    record {
+      kept = length-set a n b;
+      appended =
+          record {
+            size = omega arith;
+            text =
+                ap (λ i. take i (set a n b)) (add-one n)
+                ∙ take-suc-set a n b h
+                ∙ sym (take-all (n + 1) (take n a ++ (b ∷ [])) (omega arith));
+          };
+    }
+
+-- A full buffer takes nothing.
+pub put-full : (a : List ℕ) (n m : ℕ) (w : List ℕ) → length a ≤ n → m ≡ length a → Put a n w a m
+put-full a n m w h e =
+    record {
+      kept = refl;
+      appended =
+          record {
+            size = omega arith;
+            text = ap (λ l. take m l) (sym (take-all n a h)) ∙ sym (take-append-le m (take n a) w (omega (arith, length-take n a)));
+          };
+    }
+
+pub same-put : {a b : List ℕ} {n m : ℕ} {v w : List ℕ} → Put a n v b m → v ≡ w → Put a n w b m
+same-put g e = rw e at g
+
+pub take-min : (k : ℕ) (l : List ℕ) → take (min k (length l)) l ≡ take k l
+take-min k l = go (leb (length l) k) (leb→le (length l) k) (nleb→lt (length l) k)
+  where
+    go : (b : Bool) → (T b → length l ≤ k) → (T (not b) → k < length l) → take (min k (length l)) l ≡ take k l
+    go true p q = let s = p tt in take-all (min k (length l)) l (omega arith) ∙ sym (take-all k l s)
+    go false p q = let s = q tt in let e : min k (length l) ≡ k = omega arith in ap (λ i. take i l) e
+
+hex-join : (l m : List ℕ) → hex (l ++ m) ≡ hex l ++ hex m
+hex-join [] m = refl
+hex-join (b ∷ l) m = ap (λ x. digits 16 2 b ++ x) (hex-join l m) ∙ sym (append-assoc (digits 16 2 b) (hex l) (hex m))
+
+-- One byte more of a slice, as it is and in hex.
+pub take-more : (l : List ℕ) (i : ℕ) → i < length l → take i l ++ (getD l i 0 ∷ []) ≡ take (i + 1) l
+take-more l i h = sym (take-suc l i 0 h) ∙ ap (λ j. take j l) (sym (add-one i))
+
+pub hex-more : (l : List ℕ) (i : ℕ) → i < length l → hex (take i l) ++ digits 16 2 (getD l i 0) ≡ hex (take (i + 1) l)
+hex-more l i h = sym (hex-join (take i l) (getD l i 0 ∷ [])) ∙ ap hex (take-more l i h)
+
+-- A byte's two digits.
+pub pair-of : (b : ℕ) {x y : ℕ} → b < 256 → x ≡ glyph (b / 16) → y ≡ glyph (b % 16) → (x ∷ (y ∷ [])) ≡ digits 16 2 b
+pair-of b h p q =
+    let e : b / 16 ≡ b / 16 % 16 = omega arith in
+    cc (ap glyph e)
+
+-- The fewest digits of a number are no more than any other fewest.
+fewest-le : (x j k : ℕ) → Fewest 10 1 x j → Fewest 10 1 x k → j ≤ k
+fewest-le x j k f g = go (leb j k) (leb→le j k) (nleb→lt j k)
+  where
+    go : (b : Bool) → (T b → j ≤ k) → (T (not b) → k < j) → j ≤ k
+    go true p q = p tt
+    go false p q =
+        let s = q tt in
+        let t : 10 ^ k ≤ 10 ^ (j - 1) = pow-le-pow-right (omega arith) (omega arith) in
+        let u : 10 ^ (j - 1) ≤ x = f .2 (omega (arith, g .0)) in
+        absurd (omega (arith, g .1))
+
+-- A number has one text.
+pub field-one : {x : ℕ} {v w : List ℕ} → Field x v → Field x w → v ≡ w
+field-one {x} f g =
+    let d = f .decimal in
+    let e = g .decimal in
+    let p : d .places ≤ e .places = fewest-le x (d .places) (e .places) (d .fewest) (e .fewest) in
+    let q : e .places ≤ d .places = fewest-le x (e .places) (d .places) (e .fewest) (d .fewest) in
+    let k : d .places ≡ e .places = omega arith in
+    f .text ∙ ap (λ l. 32 ∷ l) (d .text ∙ ap (λ i. digits 10 i x) k ∙ sym (e .text)) ∙ sym (g .text)

@@ -1,0 +1,2 @@
+-- Laws for the proofs of the lines that the programs print.
+pub mod Laws

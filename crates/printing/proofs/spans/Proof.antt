@@ -1,0 +1,73 @@
+-- `printing::spans` meets its contract: each step appends its part of the line, and the start has the same text both times.
+-- Assumes nothing.
+use mathlib.Core.Path.{refl}
+use Rattle.printing.proofs.Laws.{appended-join, same-put, field-one}
+use borrow.Author.Needs.{needs}
+use Rattle.printing.proofs.spans.Statement.{statement}
+use Rattle.printing.proofs.spans.Tie as tie
+
+slice-aggregate-put : tie.Need-slice-aggregate-put
+slice-aggregate-put c = search needs
+
+put-requires : tie.Need-put-requires
+put-requires c κs = search needs
+
+put-field-requires : tie.Need-put-field-requires
+put-field-requires c κs = search needs
+
+put-field-requires-2 : tie.Need-put-field-requires-2
+put-field-requires-2 c κs = search needs
+
+slice-aggregate-put-2 : tie.Need-slice-aggregate-put-2
+slice-aggregate-put-2 c = search needs
+
+put-requires-2 : tie.Need-put-requires-2
+put-requires-2 c κs = search needs
+
+put-field-requires-3 : tie.Need-put-field-requires-3
+put-field-requires-3 c κs = search needs
+
+put-field-requires-4 : tie.Need-put-field-requires-4
+put-field-requires-4 c κs = search needs
+
+put-byte-requires : tie.Need-put-byte-requires
+put-byte-requires c κs = search needs
+
+returns : tie.Need-returns
+returns c =
+    let f = c .before .before .before .before .before .before .before .before .before .before .before .put-field .ensures in
+    let s = c .before .before .before .before .before .before .before .before .before .put-field2 .ensures in
+    let a = c .before .before .before .before .put-field3 .ensures in
+    let l = c .before .before .put-field4 .ensures in (
+      _,
+      record {
+        from = f .text;
+        short = s .text;
+        long = l .text;
+        is = f .field;
+        greedily = s .field;
+        longest = l .field;
+        text = refl;
+      },
+      appended-join (c .before .before .before .before .before .before .before .before .before .before .before .before .before .put .ensures)
+          (appended-join (f .put)
+          (appended-join (s .put)
+          (appended-join (c .before .before .before .before .before .before .put2 .ensures)
+          (appended-join (same-put (a .put) (field-one (a .field) (f .field)))
+          (appended-join (l .put) (c .put-byte .ensures)))))) .appended,
+    )
+
+pub spans-spec : {M : Type 1} → statement M
+spans-spec =
+    tie.close
+    (tie.spec
+    slice-aggregate-put
+    put-requires
+    put-field-requires
+    put-field-requires-2
+    slice-aggregate-put-2
+    put-requires-2
+    put-field-requires-3
+    put-field-requires-4
+    put-byte-requires
+    returns)

@@ -1,0 +1,67 @@
+-- The lines that the programs print (paper 01, "The programs"), as bytes in ASCII, and what it is to append them to a buffer.
+-- Assumes nothing.
+use mathlib.Core.Path.{_≡_}
+use Prim.Native.Nat.{ℕ, _+_, min}
+use mathlib.Core.List.{List, [], _∷_, _++_}
+use lib.ListN.{length, take}
+use Rattle.io.specs.Digits.{digits, Fewest}
+
+-- The buffer, which held n bytes, now holds m: w is added to them, as far as it fits.
+pub record Appended (old : List ℕ) (n : ℕ) (w : List ℕ) (new : List ℕ) (m : ℕ) : Type 0 where
+  pub size : m ≡ min (length old) (n + length w)
+  pub text : take m new ≡ take m (take n old ++ w)
+
+-- A number in decimal, in the fewest digits.
+pub record Decimal (x : ℕ) (w : List ℕ) : Type 0 where
+  pub places : ℕ
+  pub fewest : Fewest 10 1 x places
+  pub text : w ≡ digits 10 places x
+
+-- Bytes "in lower-case hex", two digits each.
+abbrev pub hex : List ℕ → List ℕ
+hex [] = []
+hex (b ∷ l) = digits 16 2 b ++ hex l
+
+-- A space and a number after it.
+pub record Field (x : ℕ) (w : List ℕ) : Type 0 where
+  pub number : List ℕ
+  pub decimal : Decimal x number
+  pub text : w ≡ 32 ∷ number
+
+-- "Fields: verdict, record count": alike.
+pub record AlikeLine (count : ℕ) (w : List ℕ) : Type 0 where
+  pub field : List ℕ
+  pub is : Field count field
+  pub text : w ≡ (97 ∷ 108 ∷ 105 ∷ 107 ∷ 101 ∷ []) ++ (field ++ (10 ∷ []))
+
+-- "verdict, record count, witness in lower-case hex": unlike.
+pub record UnlikeLine (count : ℕ) (witness : List ℕ) (w : List ℕ) : Type 0 where
+  pub field : List ℕ
+  pub is : Field count field
+  pub text : w ≡ (117 ∷ 110 ∷ 108 ∷ 105 ∷ 107 ∷ 101 ∷ []) ++ (field ++ (32 ∷ (hex witness ++ (10 ∷ []))))
+
+-- "or number, place": refused.
+pub record RefusedLine (number place : ℕ) (w : List ℕ) : Type 0 where
+  pub first : List ℕ
+  pub second : List ℕ
+  pub is : Field number first
+  pub at : Field place second
+  pub text : w ≡ (114 ∷ 101 ∷ 102 ∷ 117 ∷ 115 ∷ 101 ∷ 100 ∷ []) ++ (first ++ (second ++ (10 ∷ [])))
+
+-- "none".
+abbrev pub noneLine : List ℕ
+noneLine = 110 ∷ 111 ∷ 110 ∷ 101 ∷ 10 ∷ []
+
+-- "greedy 0 1 posix 0 2".
+pub record SpansLine (start greedy posix : ℕ) (w : List ℕ) : Type 0 where
+  pub from : List ℕ
+  pub short : List ℕ
+  pub long : List ℕ
+  pub is : Field start from
+  pub greedily : Field greedy short
+  pub longest : Field posix long
+  pub text : w ≡ (103 ∷ 114 ∷ 101 ∷ 101 ∷ 100 ∷ 121 ∷ []) ++ (from ++ (short ++ ((32 ∷ 112 ∷ 111 ∷ 115 ∷ 105 ∷ 120 ∷ []) ++ (from ++ (long ++ (10 ∷ []))))))
+
+-- A line of the kind L is appended.
+abbrev pub Printed : (List ℕ → Type 0) → List ℕ → ℕ → List ℕ → ℕ → Type 0
+Printed L old n new m = (w : List ℕ) × L w × Appended old n w new m

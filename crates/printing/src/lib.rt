@@ -1,0 +1,144 @@
+// The lines that the programs print, appended to a lent buffer: paper 01, "The programs". What does not fit is cut off; a program writes its buffer out in time.
+ghost use mathlib.Core.Path.{_≡_};
+ghost use mathlib.Core.List.{[], _∷_};
+ghost use Prim.Native.Nat.{_<_, min};
+ghost use lib.ListN.{length, take};
+ghost use Rattle.io.specs.Digits.{digits};
+ghost use Rattle.io.specs.Digits.{glyph as Digits·glyph};
+ghost use Rattle.printing.specs.Text.{Appended, Printed, hex, AlikeLine, UnlikeLine, RefusedLine, SpansLine, noneLine};
+ghost use Rattle.printing.specs.Puts.{Put, PutField};
+
+// How many bytes the buffer has.
+fn size(out: &[u8; 65536]) -> usize
+    ensures { λ r. ⌜ (r ≡ 65536) × (r ≡ length (now (out .entry))) ⌝ }
+{
+    let all = &out[..];
+    all.len()
+}
+
+fn least(a: usize, b: usize) -> usize
+    ensures { λ r. ⌜ r ≡ min a b ⌝ }
+{
+    if a < b { a } else { b }
+}
+
+// How many bytes of the buffer are in use: all of them where n is above its size.
+fn used(out: &[u8; 65536], n: usize) -> usize
+    ensures { λ r. ⌜ r ≡ min n (length (now (out .entry))) ⌝ }
+{
+    least(n, size(out))
+}
+
+// One byte more.
+fn put_byte(out: &mut [u8; 65536], n: usize, b: u8) -> usize
+    ensures { λ r. ⌜ Put (now (out .entry)) n (b ∷ []) (now (out .exit)) r ⌝ }
+{
+    let end = size(out);
+    if n < end {
+        out[n] = b;
+        return n + 1;
+    }
+    end
+}
+
+// The bytes of a slice in turn.
+fn put(out: &mut [u8; 65536], n: usize, s: &[u8]) -> usize
+    ensures { λ r. ⌜ Put (now (out .entry)) n (now (s .entry)) (now (out .exit)) r ⌝ }
+{
+    let mut m = used(out, n);
+    let mut i = 0;
+    while i < s.len() {
+        m = put_byte(out, m, s[i]);
+        i += 1;
+    }
+    m
+}
+
+// A space and a number in decimal.
+fn put_field(out: &mut [u8; 65536], n: usize, x: usize) -> usize
+    ensures { λ r. ⌜ PutField x (now (out .entry)) n (now (out .exit)) r ⌝ }
+{
+    let mut text = [0u8; 20];
+    let k = io::decimal(x as u64, &mut text);
+    let m = put_byte(out, n, b' ');
+    put(out, m, &text[..k])
+}
+
+fn glyph(d: u8) -> u8
+    requires { ⌜ d < 16 ⌝ }
+    ensures { λ r. ⌜ r ≡ Digits·glyph d ⌝ }
+{
+    if d < 10 { 48 + d } else { 87 + d }
+}
+
+// A byte in hex: two digits.
+fn put_pair(out: &mut [u8; 65536], n: usize, b: u8) -> usize
+    ensures { λ r. ⌜ Put (now (out .entry)) n (digits 16 2 b) (now (out .exit)) r ⌝ }
+{
+    let m = put_byte(out, n, glyph(b / 16));
+    put_byte(out, m, glyph(b % 16))
+}
+
+// The first k bytes of a slice in hex.
+fn put_hex(out: &mut [u8; 65536], n: usize, s: &[u8], k: usize) -> usize
+    ensures { λ r. ⌜ Put (now (out .entry)) n (hex (take k (now (s .entry)))) (now (out .exit)) r ⌝ }
+{
+    let end = least(k, s.len());
+    let mut m = used(out, n);
+    let mut i = 0;
+    while i < end {
+        m = put_pair(out, m, s[i]);
+        i += 1;
+    }
+    m
+}
+
+// 'alike COUNT'
+pub fn alike(out: &mut [u8; 65536], n: usize, count: usize) -> usize
+    ensures printed { λ r. ⌜ Printed (AlikeLine count) (now (out .entry)) n (now (out .exit)) r ⌝ }
+{
+    let word = put(out, n, b"alike");
+    let field = put_field(out, word, count);
+    put_byte(out, field, b'\n')
+}
+
+// 'unlike COUNT WITNESS', the first `length` bytes of the buffer in hex
+pub fn unlike(out: &mut [u8; 65536], n: usize, count: usize, length: usize, witness: &[u8]) -> usize
+    ensures printed { λ r. ⌜ Printed (UnlikeLine count (take length (now (witness .entry)))) (now (out .entry)) n (now (out .exit)) r ⌝ }
+{
+    let word = put(out, n, b"unlike");
+    let field = put_field(out, word, count);
+    let space = put_byte(out, field, b' ');
+    let bytes = put_hex(out, space, witness, length);
+    put_byte(out, bytes, b'\n')
+}
+
+// 'refused NUMBER PLACE'
+pub fn refused(out: &mut [u8; 65536], n: usize, number: u8, place: usize) -> usize
+    ensures printed { λ r. ⌜ Printed (RefusedLine number place) (now (out .entry)) n (now (out .exit)) r ⌝ }
+{
+    let word = put(out, n, b"refused");
+    let first = put_field(out, word, number as usize);
+    let second = put_field(out, first, place);
+    put_byte(out, second, b'\n')
+}
+
+// 'none'
+pub fn none(out: &mut [u8; 65536], n: usize) -> usize
+    ensures printed { λ r. ⌜ Appended (now (out .entry)) n noneLine (now (out .exit)) r ⌝ }
+{
+    put(out, n, b"none\n")
+}
+
+// 'greedy START END posix START END'
+pub fn spans(out: &mut [u8; 65536], n: usize, start: usize, greedy: usize, posix: usize) -> usize
+    ensures printed { λ r. ⌜ Printed (SpansLine start greedy posix) (now (out .entry)) n (now (out .exit)) r ⌝ }
+{
+    let first = put(out, n, b"greedy");
+    let from = put_field(out, first, start);
+    let short = put_field(out, from, greedy);
+    let second = put(out, short, b" posix");
+    let again = put_field(out, second, start);
+    let long = put_field(out, again, posix);
+    put_byte(out, long, b'\n')
+}

@@ -1,0 +1,2 @@
+-- The numbers are the answers.
+mod Answers

@@ -1,0 +1,2 @@
+-- What the library's functions promise.
+pub mod Calls

@@ -1,0 +1,123 @@
+// The library for other languages: a pattern's tables, both spans of a line by them, and the checker. No function keeps a state, allocates or fails: a pattern that is no pattern is refused.
+ghost use mathlib.Core.Path.{_≡_};
+ghost use Rattle.yindorka.specs.Calls.{Prepared, Cuts, Decided, outcomeOf};
+use checker::Verdict;
+use matchers::Span;
+use matchers::Spans;
+use reader::Answer;
+
+// Number 0 for an accepted pattern, else paper 01's number and place.
+#[repr(C)]
+pub struct Refusal {
+    pub number: usize,
+    pub place: usize,
+}
+
+// Kind 0, alike: the count. Kind 1, unlike: the count and the witness's length. Kind 2, refused: number and place.
+#[repr(C)]
+pub struct Outcome {
+    pub kind: usize,
+    pub first: usize,
+    pub second: usize,
+}
+
+// Reads a pattern and fills its tables, which then serve any number of lines. A refused pattern leaves them as they are.
+#[no_mangle]
+pub extern "C" fn yindorka_prepare(
+    pattern: &[u8],
+    masks: &mut [u64; 256],
+    rows: &mut [u8; 4225],
+    lens: &mut [u8; 65],
+    sets: &mut [u64; 65],
+    ends: &mut [u8; 65],
+) -> Refusal
+    ensures prepared { λ r. ⌜ Prepared (now (pattern .entry))
+        (record { masks = now (masks .entry); rows = now (rows .entry); lens = now (lens .entry); sets = now (sets .entry); ends = now (ends .entry) }) r
+        (record { masks = now (masks .exit); rows = now (rows .exit); lens = now (lens .exit); sets = now (sets .exit); ends = now (ends .exit) }) ⌝ }
+{
+    let reading = reader::read(pattern);
+    let answer = reading.answer;
+    let Answer::Refused { number, place } = answer else {
+        let arrays = reading.pattern;
+        let own_masks = arrays.masks;
+        let tables = follow::tables_of(arrays);
+        let own_rows = tables.rows;
+        let own_lens = tables.lens;
+        let own_sets = tables.sets;
+        let own_ends = tables.ends;
+        *masks = own_masks;
+        *rows = own_rows;
+        *lens = own_lens;
+        *sets = own_sets;
+        *ends = own_ends;
+        return Refusal {
+            number: 0,
+            place: 0,
+        };
+    };
+    Refusal {
+        number: number as usize,
+        place: place,
+    }
+}
+
+// Both spans of a line of any length: 1 and the start, the greedy end and the POSIX end, or 0.
+#[no_mangle]
+pub extern "C" fn yindorka_cut<'a>(
+    line: &'a [u8],
+    masks: &'a [u64; 256],
+    rows: &'a [u8; 4225],
+    lens: &'a [u8; 65],
+    sets: &'a [u64; 65],
+    ends: &'a [u8; 65],
+    spans: &mut [usize; 3],
+) -> usize
+    ensures cuts { λ r. ⌜ Cuts (record { masks = now (masks .entry); rows = now (rows .entry); lens = now (lens .entry); sets = now (sets .entry); ends = now (ends .entry) })
+        (now (line .entry)) (now (spans .entry)) r (now (spans .exit)) ⌝ }
+{
+    let both = matchers::cut(line, masks, rows, lens, sets, ends);
+    let greedy = both.greedy;
+    let posix = both.posix;
+    let Span::Located { start, end: short } = greedy else {
+        return 0;
+    };
+    let Span::Located {
+        start: _,
+        end: long,
+    } = posix
+    else {
+        return 0;
+    };
+    *spans = [start, short, long];
+    1
+}
+
+fn numbers_of(x: Verdict) -> Outcome
+    ensures { λ r. ⌜ r ≡ outcomeOf x ⌝ }
+{
+    match x {
+        Verdict::Alike { count } => Outcome {
+            kind: 0,
+            first: count,
+            second: 0,
+        },
+        Verdict::Unlike { count, length } => Outcome {
+            kind: 1,
+            first: count,
+            second: length,
+        },
+        Verdict::Refused { number, place } => Outcome {
+            kind: 2,
+            first: number as usize,
+            second: place,
+        },
+    }
+}
+
+// The checker's verdict, with what it writes to the table and to the witness buffer.
+#[no_mangle]
+pub extern "C" fn yindorka_check(pattern: &[u8], table: &mut [u8], witness: &mut [u8]) -> Outcome
+    ensures decided { λ r. ⌜ Decided (now (pattern .entry)) (now (table .entry)) (now (witness .entry)) r (now (table .exit)) (now (witness .exit)) ⌝ }
+{
+    numbers_of(checker::check(pattern, table, witness))
+}
