@@ -2,3 +2,5 @@
 mod Origins
 -- The answer is the right one.
 mod Decides
+-- Demands 1 and 3 in their words.
+pub mod Demand
