@@ -1,0 +1,36 @@
+/* Times the checker on each word of the command line, with a table of 65,535 slots and a witness buffer of 8,192 bytes: milliseconds, the best of three, the verdict, and how many
+ * records a second it wrote. */
+#include <stdio.h>
+#include <string.h>
+#include <time.h>
+#include "../include/yindorka.h"
+
+static uint8_t table[64 * 65535];
+static uint8_t witness[8192];
+
+static double now(void)
+{
+    struct timespec t;
+    clock_gettime(CLOCK_MONOTONIC, &t);
+    return 1e3 * (double)t.tv_sec + (double)t.tv_nsec / 1e6;
+}
+
+int main(int n, char **words)
+{
+    static const char *kinds[] = {"alike", "unlike", "refused"};
+    for (int i = 1; i < n; i++) {
+        double best = 0;
+        yindorka_outcome o = {0, 0, 0};
+        for (int k = 0; k < 3; k++) {
+            double start = now();
+            o = yindorka_check((const uint8_t *)words[i], strlen(words[i]), table, sizeof table, witness, sizeof witness);
+            double t = now() - start;
+            best = k == 0 || t < best ? t : best;
+        }
+        /* Of the refusals only 10 leaves records, all slots of them. */
+        size_t records = o.kind < 2 ? o.first : o.first == 10 ? 65535 : 0;
+        printf("%-42.42s %10.2f ms  %-7s %6zu %6zu %12.0f records/s\n", words[i], best, kinds[o.kind], o.first, o.second, 1e3 * (double)records / best);
+        fflush(stdout);
+    }
+    return 0;
+}

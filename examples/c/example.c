@@ -1,0 +1,53 @@
+/* Reads a pattern from the command line, says whether the two readings can ever cut a line differently, and cuts the other words both ways.
+ * Usage: example PATTERN LINE..   Built and run by examples/c/run. */
+#include <stdio.h>
+#include <string.h>
+#include "../../include/yindorka.h"
+
+/* 64 KB of table hold 1,024 records. The buffers are the caller's: nothing is allocated. */
+static uint8_t table[65536];
+static uint8_t witness[1024];
+static yindorka_tables tables;
+
+static void show_verdict(yindorka_outcome o)
+{
+    if (o.kind == 0) {
+        printf("alike, %zu records\n", o.first);
+    } else if (o.kind == 1) {
+        printf("unlike, %zu records, first line cut differently: ", o.first);
+        for (size_t i = 0; i < o.second; i++) {
+            printf("%02x", witness[i]);
+        }
+        printf("\n");
+    } else {
+        printf("refused with %zu at %zu\n", o.first, o.second);
+    }
+}
+
+static void show_cut(const char *line)
+{
+    size_t spans[3];
+    if (!yindorka_spans((const uint8_t *)line, strlen(line), &tables, spans)) {
+        printf("%s: none\n", line);
+        return;
+    }
+    printf("%s: the station takes '%.*s', the hall '%.*s'\n", line, (int)(spans[1] - spans[0]), line + spans[0], (int)(spans[2] - spans[0]), line + spans[0]);
+}
+
+int main(int n, char **words)
+{
+    if (n < 2) {
+        fprintf(stderr, "usage: example PATTERN LINE..\n");
+        return 2;
+    }
+    const uint8_t *pattern = (const uint8_t *)words[1];
+    size_t length = strlen(words[1]);
+    show_verdict(yindorka_check(pattern, length, table, sizeof table, witness, sizeof witness));
+    if (yindorka_read(pattern, length, &tables).number) {
+        return 1;
+    }
+    for (int i = 2; i < n; i++) {
+        show_cut(words[i]);
+    }
+    return 0;
+}
