@@ -50,7 +50,7 @@ add-t25 : tie.Need-add-t25
 add-t25 c = search needs
 
 same-length-3 : tie.Need-same-length-3
-same-length-3 c = ap length (c .before .before .before .before .store .ensures) ∙ put-length (c .before .before .before .before .before .before .before .before .before .before .before .before .before .before .before .args .table .now) (c .before .before .before .before .before .before .before .before .before .before .before .before .before .before .before .args .n) (c .before .before .before .before .before .before .before .before .before .before .before .before .pack .result)
+same-length-3 c = ap length (c .before .before .before .before .store .ensures) ∙ put-length (c .before .before .before .before .before .before .before .before .before .before .before .before .before .before .before .args .table .now) _ (c .before .before .before .before .before .before .before .before .before .before .before .before .pack .result)
 
 returns-3 : tie.Need-returns-3
 returns-3 c =
@@ -64,7 +64,7 @@ add-t15 : tie.Need-add-t15
 add-t15 c = search needs
 
 same-length-4 : tie.Need-same-length-4
-same-length-4 c = ap length (c .before .before .before .before .store .ensures) ∙ put-length (c .before .before .before .before .before .before .before .before .before .before .before .before .before .before .before .args .table .now) (c .before .before .before .before .before .before .before .before .before .before .before .before .before .before .before .args .n) (c .before .before .before .before .before .before .before .before .before .before .before .before .pack .result)
+same-length-4 c = ap length (c .before .before .before .before .store .ensures) ∙ put-length (c .before .before .before .before .before .before .before .before .before .before .before .before .before .before .before .args .table .now) _ (c .before .before .before .before .before .before .before .before .before .before .before .before .pack .result)
 
 returns-4 : tie.Need-returns-4
 returns-4 c =
