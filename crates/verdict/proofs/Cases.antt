@@ -70,5 +70,17 @@ pub buffer-short : shows (due short-first (replicate 64 170) (7 ∷ 8 ∷ []) on
 unfolding slots
 buffer-short = refl
 
+-- On 10 and on 11 the buffer is kept.
+abbrev buffer : Whole → List ℕ
+buffer (whole x t v) = v
+
+pub buffer-kept-on-10 : buffer (due short-first (replicate 63 170) (7 ∷ []) one-line none) ≡ 7 ∷ []
+unfolding slots
+buffer-kept-on-10 = refl
+
+pub buffer-kept-on-11 : buffer (due short-first (replicate 64 170) (7 ∷ 8 ∷ []) one-line (some (1 ∷ 2 ∷ 3 ∷ []))) ≡ 7 ∷ 8 ∷ []
+unfolding slots
+buffer-kept-on-11 = refl
+
 pub rest-kept : onto (7 ∷ 8 ∷ 9 ∷ []) (1 ∷ 2 ∷ []) ≡ 1 ∷ 2 ∷ 9 ∷ []
 rest-kept = refl
