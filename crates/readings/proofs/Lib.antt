@@ -1,2 +1,4 @@
 -- The laws of the replies.
 mod Replying
+-- For the layers above.
+pub mod Laws
