@@ -1,45 +1,29 @@
--- Sets of leaves as numbers: the bits of an and; a number without bits is 0.
+-- Sets of leaves as numbers: two sets meet if their numbers do; the loops over the rows and over the leaves of a set.
 -- Assumes nothing.
 use mathlib.Core.Path.{_≡_, refl, sym, ap, _∙_, subst}
 use mathlib.Core.Bool.{Bool, true, false, not, _&&_, _||_, true≢false}
 use mathlib.Core.List.{List, [], _∷_}
-use Prim.Native.Nat.{ℕ, zero, suc, _+_, _*_, _^_, _/_, _%_, _<_, min}
-use native.Mathlib.Nat.{div-one, div-div-eq-div-mul, pow-suc, mul-comm, mod-lt}
+use Prim.Native.Nat.{ℕ, zero, suc, _+_, _*_, _^_, _/_, _%_, _<_}
+use native.Mathlib.Nat.{div-one}
 use native.Mathlib.Omega.{arith}
 use native.Mathlib.Decide.{decLt}
-use lib.Dec.{T, eqb, ltb}
-use lib.Bits.{bitOr, bitAnd, and-step, and-shr}
-use borrow.Author.Tests.{eq-eqb, ne-eqb, lt-ltb, le-ltb}
+use lib.Dec.{T, eqb}
+use lib.ListN.{getD}
+use lib.Bits.{bitOr, bitAnd, and-zero-r}
+use borrow.Author.Tests.{eqb-true, eq-eqb, ne-eqb}
 use Rattle.theory.specs.Standing.{member}
 use Rattle.theory.specs.Code.Passes.{meets}
-use Rattle.theory.proofs.Tests.{T-true, true-T, not-true, or-false}
+use Rattle.theory.proofs.Tests.{T-true, true-T, not-true, or-left, or-right, or-false}
 use Rattle.theory.specs.Code.Members.{any}
 use Rattle.theory.proofs.Members.{any-found, any-of}
 use Rattle.arrays.specs.Decoded.{hasBit}
 use Rattle.arrays.proofs.Bits.{or-union, no-bit, shift-bit, and-true, and-false}
-use Rattle.matchers.specs.Passes.{lives, Back, Added}
-
-and-digit : (x y q : ℕ) → bitAnd x y / 2 ^ q % 2 ≡ min (x / 2 ^ q % 2) (y / 2 ^ q % 2)
-and-digit x y q = rw (and-shr x y q) (omega (arith, and-step (x / 2 ^ q) (y / 2 ^ q)))
-
-min-one : (a b : ℕ) → a < 2 → b < 2 → eqb (min a b) 1 ≡ (eqb a 1 && eqb b 1)
-min-one zero zero h k = refl
-min-one zero (suc zero) h k = refl
-min-one zero (suc (suc b)) h k = absurd (omega arith)
-min-one (suc zero) zero h k = refl
-min-one (suc zero) (suc zero) h k = refl
-min-one (suc zero) (suc (suc b)) h k = absurd (omega arith)
-min-one (suc (suc a)) b h k = absurd (omega arith)
-
-and-bit : (x y q : ℕ) → hasBit (bitAnd x y) q ≡ (hasBit x q && hasBit y q)
-and-bit x y q = rw (and-digit x y q) (min-one (x / 2 ^ q % 2) (y / 2 ^ q % 2) (mod-lt _ (omega arith)) (mod-lt _ (omega arith)))
+use Rattle.standing.specs.Sets.{Parted}
+use Rattle.standing.proofs.Leaves.{and-bit, half-bit}
+use Rattle.matchers.specs.Passes.{wantsOf, Covers, leadsOn, Leading, Back, Added}
 
 pub added : (x p : ℕ) → p < 64 → Added true x p (bitOr x (1 * 2 ^ p % 18446744073709551616))
 added x p h k = or-union x (1 * 2 ^ p % 18446744073709551616) k ∙ ap (λ c. hasBit x k || c) (shift-bit p k h)
-
--- The bits of a half.
-half-bit : (z q : ℕ) → hasBit (z / 2) q ≡ hasBit z (suc q)
-half-bit z q = ap (λ n. eqb (n % 2) 1) (div-div-eq-div-mul z 2 (2 ^ q) ∙ ap (λ n. z / n) (mul-comm 2 (2 ^ q) ∙ sym (pow-suc 2 q)))
 
 zero-of-bits : (k z : ℕ) → z < k → ((q : ℕ) → hasBit z q ≡ false) → z ≡ 0
 zero-of-bits zero z l h = absurd (omega arith)
@@ -58,8 +42,8 @@ and-cases true true t = (tt, tt)
 and-cases true false t = absurd t
 and-cases false b t = absurd t
 
--- TWO SETS MEET exactly if their numbers have a bit in common. Of x only the first 64 bits are known, and y has no other.
-pub meets-bits : (x y : ℕ) (l set : List ℕ) → ((q : ℕ) → q < 64 → hasBit x q ≡ member q l) → ((q : ℕ) → hasBit y q ≡ member q set) → ((q : ℕ) → T (member q set) → q < 64)
+-- TWO SETS MEET exactly if their numbers have a bit in common. Of x only the first 64 bits are known, and of y those that x has.
+pub meets-bits : (x y : ℕ) (l set : List ℕ) → ((q : ℕ) → q < 64 → hasBit x q ≡ member q l) → ((q : ℕ) → T (hasBit x q) → hasBit y q ≡ member q set) → ((q : ℕ) → T (member q set) → q < 64)
     → not (eqb (bitAnd x y) 0) ≡ meets l set
 meets-bits x y l set hx hy small = rw (meets-any l set) (go (any (λ p. member p set) l) refl)
   where
@@ -69,7 +53,7 @@ meets-bits x y l set hx hy small = rw (meets-any l set) (go (any (λ p. member p
         none : (q : ℕ) → hasBit (bitAnd x y) q ≡ false
         none q = not-true (hasBit (bitAnd x y) q) λ t.
             let both = and-cases (hasBit x q) (hasBit y q) (subst T (and-bit x y q) t) in
-            let in-set : T (member q set) = subst T (hy q) (both .1) in
+            let in-set : T (member q set) = subst T (hy q (both .0)) (both .1) in
             let in-list : T (member q l) = subst T (hx q (small q in-set)) (both .0) in
             true≢false (sym (T-true (any (λ p. member p set) l) (any-of (λ p. member p set) l q in-list in-set)) ∙ e)
     go true e = ap not (ne-eqb (bitAnd x y) 0 λ z. true≢false (sym both ∙ ap (λ n. hasBit n p) z ∙ no-bit p))
@@ -80,19 +64,56 @@ meets-bits x y l set hx hy small = rw (meets-any l set) (go (any (λ p. member p
         p : ℕ
         p = found .0
 
+        in-row : hasBit x p ≡ true
+        in-row = hx p (small p (found .2)) ∙ T-true (member p l) (found .1)
+
         both : hasBit (bitAnd x y) p ≡ true
-        both = and-bit x y p ∙ rw (hx p (small p (found .2)), hy p, T-true (member p l) (found .1), T-true (member p set) (found .2))
+        both = and-bit x y p ∙ rw (in-row, hy p (true-T (hasBit x p) in-row)) (T-true (member p set) (found .2))
 
--- The pass over the leaves: none yet, and one more.
-pub back-none : (mask alive : ℕ) (sets ends : List ℕ) → Back 0 mask alive sets ends 0
-back-none mask alive sets ends p = rw (le-ltb p 0 (omega arith)) (no-bit p)
+-- The loop over the rows: none yet, and one more.
+pub covers-none : (sets : List ℕ) → Covers 0 sets 0
+covers-none sets k q h t = absurd (omega arith)
 
-pub back-more : (n mask alive : ℕ) (sets ends : List ℕ) (x y : ℕ) → Back n mask alive sets ends x → Added (lives mask alive sets ends n) x n y → Back (n + 1) mask alive sets ends y
-back-more n mask alive sets ends x y h a p = a p ∙ ap (λ c. c || (lives mask alive sets ends n && eqb p n)) (h p) ∙ go (decLt p n) (decLt n p)
+pub covers-more : (n : ℕ) (sets : List ℕ) (x : ℕ) → Covers n sets x → Covers (n + 1) sets (bitOr x (getD sets n 0))
+covers-more n sets x h k q l t = rw (or-union x (getD sets n 0) q) (go (decLt k n))
   where
-    go : Dec (p < n) → Dec (n < p) → ((ltb p n && lives mask alive sets ends p) || (lives mask alive sets ends n && eqb p n)) ≡ (ltb p (n + 1) && lives mask alive sets ends p)
-    go (yes l) d = rw (lt-ltb p n l, lt-ltb p (n + 1) (omega arith), ne-eqb p n (λ e. omega arith), and-false (lives mask alive sets ends n)) (or-false (lives mask alive sets ends p))
-    go (no l) (yes m) = rw (le-ltb p n (omega arith), le-ltb p (n + 1) (omega arith), ne-eqb p n (λ e. omega arith)) (and-false (lives mask alive sets ends n))
-    go (no l) (no m) =
-        let e : p ≡ n = omega arith in
-        rw (e, le-ltb n n (omega arith), lt-ltb n (n + 1) (omega arith), eq-eqb n n refl) (and-true (lives mask alive sets ends n))
+    go : Dec (k < n) → T (hasBit x q || hasBit (getD sets n 0) q)
+    go (yes m) = or-left (hasBit x q) (hasBit (getD sets n 0) q) (h k q m t)
+    go (no m) = let e : k ≡ n = omega arith in or-right (hasBit x q) (hasBit (getD sets n 0) q) (rw e at t)
+
+-- The loop over the leaves of a set: x and the leaves of `rest` that pass are the whole.
+abbrev pub Left : (ℕ → Bool) → (ℕ → Bool) → ℕ → ℕ → Type 0
+Left pass whole x rest = (k : ℕ) → (hasBit x k || (hasBit rest k && pass k)) ≡ whole k
+
+pub left-turn : (pass whole : ℕ → Bool) (x y z p rest : ℕ) → Left pass whole x z → Parted z p rest → Added (pass p) x p y → Left pass whole y rest
+left-turn pass whole x y z p rest h s a k =
+    rw (a k, s .others k) (go (eqb k p) refl ∙ h k)
+  where
+    go : (c : Bool) → eqb k p ≡ c → ((hasBit x k || (pass p && c)) || ((hasBit z k && not c) && pass k)) ≡ (hasBit x k || (hasBit z k && pass k))
+    go true e = let same : k ≡ p = eqb-true k p e in rw (same, s .there, and-true (pass p)) (or-false (hasBit x p || pass p))
+    go false e = rw (and-false (pass p), or-false (hasBit x k), and-true (hasBit z k))
+
+pub left-end : (pass whole : ℕ → Bool) (x z : ℕ) → z ≡ 0 → Left pass whole x z → (k : ℕ) → hasBit x k ≡ whole k
+left-end pass whole x z e h k = sym (or-false (hasBit x k)) ∙ ap (λ c. hasBit x k || (c && pass k)) (sym (ap (λ n. hasBit n k) e ∙ no-bit k)) ∙ h k
+
+pub ending-begin : (leaves : ℕ) (ends : List ℕ) → Left (λ p. eqb (getD ends (suc p) 0) 1) (λ p. hasBit leaves p && eqb (getD ends (suc p) 0) 1) 0 leaves
+ending-begin leaves ends k = rw (no-bit k)
+
+module _ (leaves alive ending : ℕ) (sets : List ℕ) where
+  pub leading-begin : Left (λ p. wantsOf (getD sets (suc p) 0) alive) (λ p. hasBit leaves p && leadsOn alive ending sets p) (bitAnd leaves ending) leaves
+  leading-begin k = rw (and-bit leaves ending k) (go (hasBit leaves k) (hasBit ending k))
+    where
+      go : (a b : Bool) → ((a && b) || (a && wantsOf (getD sets (suc k) 0) alive)) ≡ (a && (b || wantsOf (getD sets (suc k) 0) alive))
+      go true b = refl
+      go false b = refl
+
+  -- Where none is alive, a row leads to an end only by its own.
+  pub leading-dead : alive ≡ 0 → Leading leaves alive ending sets (bitAnd leaves ending)
+  leading-dead e k = and-bit leaves ending k ∙ ap (λ c. hasBit leaves k && c) (sym (or-false (hasBit ending k)) ∙ ap (λ c. hasBit ending k || c) (sym none))
+    where
+      none : wantsOf (getD sets (suc k) 0) alive ≡ false
+      none = ap not (eq-eqb _ 0 (ap (bitAnd (getD sets (suc k) 0)) e ∙ and-zero-r (getD sets (suc k) 0)))
+
+  -- The leading leaves that take a byte are alive before it.
+  pub back-known : (mask x : ℕ) → Leading leaves alive ending sets x → Back leaves mask alive ending sets (bitAnd mask x)
+  back-known mask x h p t = and-bit mask x p ∙ ap (λ c. hasBit mask p && c) (h p ∙ ap (λ c. c && leadsOn alive ending sets p) (T-true (hasBit leaves p) t))

@@ -46,7 +46,7 @@ module _ (masks rows lens sets ends w : List ℕ) (s : Place) (left : Leftmost m
       → Cuts masks rows lens sets ends w (record { greedy = g; posix = p })
   cut-some i e g p at ended is-g is-p r lent below =
       let start : leftmostStart r w ≡ some i = sym (left r rows lens lent below) ∙ at in
-      let last = ended r lent in
+      let last = ended r lent below in
       record {
         greedily = span-some (endFrom r w (λ s. s .first)) (leftmostStart r w) (greedy r w) (greedy-passes r (lent .numbered) w) i (placeOf (e .greedy)) (spanOf g) start (last .greedily) is-g;
         longest = span-some (endFrom r w (λ s. s .some)) (leftmostStart r w) (posix r w) (posix-passes r (lent .numbered) w) i (placeOf (e .posix)) (spanOf p) start (last .longest) is-p;

@@ -2,13 +2,13 @@
 ghost use mathlib.Core.Path.{_≡_};
 ghost use mathlib.Core.Bool.{cond, _&&_};
 ghost use mathlib.Core.Option.{some};
-ghost use Prim.Native.Nat.{ℕ, suc, _<_};
-ghost use lib.ListN.{getD};
+ghost use Prim.Native.Nat.{_≤_, _<_};
+ghost use lib.ListN.{length};
 ghost use lib.Dec.{eqb};
 ghost use Rattle.theory.specs.Spans.{spanOr, nowhere};
-ghost use Rattle.arrays.specs.Decoded.{hasBit};
+ghost use Rattle.standing.specs.Sets.{Parted};
 ghost use Rattle.matchers.specs.Cuts.{Cuts, spanOf};
-ghost use Rattle.matchers.specs.Passes.{placeOf, leadsTo, lives, Back, Added, Leftmost, Ended};
+ghost use Rattle.matchers.specs.Passes.{placeOf, wantsOf, Covers, Ending, Leading, Memory, Recalled, Before, Kept, Added, LastStart, Leftmost, SameLeaves, SameIf, Run, Passed, Ended};
 use standing::Standing;
 
 // A span, or none.
@@ -34,17 +34,16 @@ struct Ends {
     posix: Place,
 }
 
-fn mask_of<'a>(b: u8, masks: &'a [u64; 256]) -> u64
-    ensures { λ r. ⌜ r ≡ getD (now (masks .entry)) b 0 ⌝ }
-{
-    masks[b as usize]
+// The least leaf of a set, and the others.
+struct Taken {
+    leaf: usize,
+    rest: u64,
 }
 
-fn has(x: u64, p: usize) -> bool
-    requires { ⌜ p < 64 ⌝ }
-    ensures { λ r. ⌜ r ≡ hasBit x p ⌝ }
+fn wide(x: u8) -> usize
+    ensures { λ r. ⌜ (r ≡ x) × (r < 256) ⌝ }
 {
-    x >> p & 1 == 1
+    x as usize
 }
 
 // The set x, with p if `is`.
@@ -68,49 +67,156 @@ fn at_if(is: bool, i: usize, other: Place) -> Place
     other
 }
 
-// A row leads to an end: it has the end, or wants a leaf that is alive.
-fn leads(set: u64, end: u8, alive: u64) -> bool
-    ensures { λ r. ⌜ r ≡ leadsTo set end alive ⌝ }
+// Whether a set has a leaf that is alive.
+fn wants(set: u64, alive: u64) -> bool
+    ensures { λ r. ⌜ r ≡ wantsOf set alive ⌝ }
 {
-    if end == 1 {
-        return true;
-    }
     set & alive != 0
 }
 
-// Whether the leaf p is alive before a byte with that mask, if `alive` are alive after it.
-fn lives<'a>(mask: u64, alive: u64, sets: &'a [u64; 65], ends: &'a [u8; 65], p: usize) -> bool
-    requires { ⌜ p < 64 ⌝ }
-    ensures { λ r. ⌜ r ≡ lives mask alive (now (sets .entry)) (now (ends .entry)) p ⌝ }
+fn take_least(x: u64) -> Taken
+    requires { ⌜ 0 < x ⌝ }
+    ensures { λ r. ⌜ Parted x (r .leaf) (r .rest) ⌝ }
 {
-    if has(mask, p) {
-        let k = p + 1;
-        return leads(sets[k], ends[k], alive);
+    Taken {
+        leaf: u64::trailing_zeros(x) as usize,
+        rest: x & x - 1,
     }
-    false
 }
 
-// The leaves alive before a byte with that mask.
-fn alive_back<'a>(mask: u64, alive: u64, sets: &'a [u64; 65], ends: &'a [u8; 65]) -> u64
-    ensures { λ r. ⌜ Back 64 mask alive (now (sets .entry)) (now (ends .entry)) r ⌝ }
+// All leaves that some row wants: no row leads to an end by another.
+fn wanted_leaves<'a>(sets: &'a [u64; 65]) -> u64
+    ensures { λ r. ⌜ Covers 65 (now (sets .entry)) r ⌝ }
 {
     let mut x = 0u64;
-    let mut p = 0;
-    while p < 64 {
-        x = add_if(lives(mask, alive, sets, ends, p), x, p);
-        p += 1;
+    let mut k = 0;
+    while k < 65 {
+        x = x | sets[k];
+        k += 1;
     }
     x
 }
 
-// A place where those leaves are alive is a start.
-fn is_start<'a>(alive: u64, sets: &'a [u64; 65], ends: &'a [u8; 65]) -> bool
-    ensures { λ r. ⌜ r ≡ leadsTo (getD (now (sets .entry)) 0 0) (getD (now (ends .entry)) 0 0) alive ⌝ }
+// Those of the leaves whose row has the end.
+fn ending_leaves<'a>(leaves: u64, ends: &'a [u8; 65]) -> u64
+    ensures { λ r. ⌜ Ending leaves (now (ends .entry)) r ⌝ }
 {
-    leads(sets[0], ends[0], alive)
+    let mut x = 0u64;
+    let mut rest = leaves;
+    while rest != 0 {
+        let t = take_least(rest);
+        let p = t.leaf;
+        x = add_if(ends[p + 1] == 1, x, p);
+        rest = t.rest;
+    }
+    x
+}
+
+// Those of the leaves that lead to an end, if `alive` are alive after their byte: the row has the end, or a leaf that is alive.
+fn leading_leaves<'a>(leaves: u64, alive: u64, ending: u64, sets: &'a [u64; 65]) -> u64
+    ensures { λ r. ⌜ Leading leaves alive ending (now (sets .entry)) r ⌝ }
+{
+    let mut x = leaves & ending;
+    let mut rest = leaves;
+    while rest != 0 {
+        let t = take_least(rest);
+        let p = t.leaf;
+        x = add_if(wants(sets[p + 1], alive), x, p);
+        rest = t.rest;
+    }
+    x
+}
+
+// All leading leaves where they are known, else 0: where none is alive, and from the second time on that `alive` is met.
+// The memory has an entry for each leaf, for the last met of the sets with that least leaf: the set, and its leading leaves, which are 0 at the first time.
+// So a set that does not come again costs no more than the leaves of one mask.
+fn recall<'a>(
+    alive: u64,
+    leaves: u64,
+    ending: u64,
+    sets: &'a [u64; 65],
+    keys: &mut [u64; 64],
+    values: &mut [u64; 64],
+) -> u64
+    requires { ⌜ Memory leaves ending (now sets) (now keys) (now values) ⌝ }
+    ensures { λ r. ⌜ Recalled leaves ending (now (sets .entry)) alive (now (keys .exit)) (now (values .exit)) r ⌝ }
+{
+    if alive == 0 {
+        return leaves & ending;
+    }
+    let t = take_least(alive);
+    let j = t.leaf;
+    if keys[j] != alive {
+        keys[j] = alive;
+        values[j] = 0;
+        return 0;
+    }
+    if values[j] == 0 {
+        let x = leading_leaves(leaves, alive, ending, sets);
+        values[j] = x;
+        return x;
+    }
+    values[j]
+}
+
+// The leaves alive before a byte with that mask, if `alive` are alive after it: of all leading leaves, or, where those are not known, of the mask.
+fn alive_before<'a>(mask: u64, alive: u64, leading: u64, ending: u64, sets: &'a [u64; 65]) -> u64
+    ensures { λ r. ⌜ Before mask alive leading ending (now (sets .entry)) r ⌝ }
+{
+    if leading == 0 {
+        return leading_leaves(mask, alive, ending, sets);
+    }
+    mask & leading
+}
+
+// Back over the bytes that keep the leaves alive as they are. Where the leading leaves are not known, no byte does.
+fn run_back<'a>(
+    line: &'a [u8],
+    from: usize,
+    alive: u64,
+    leading: u64,
+    masks: &'a [u64; 256],
+) -> usize
+    requires { ⌜ from ≤ length (now line) ⌝ }
+    ensures { λ r. ⌜ Kept (now (masks .entry)) (now (line .entry)) alive leading from r ⌝ }
+{
+    let mut j = from;
+    while 0 < j {
+        if masks[wide(line[j - 1])] & leading != alive {
+            return j;
+        }
+        j -= 1;
+    }
+    j
 }
 
 // From the line's end back to its first place: the last start found is the leftmost.
+fn last_start<'a>(
+    line: &'a [u8],
+    leaves: u64,
+    ending: u64,
+    masks: &'a [u64; 256],
+    sets: &'a [u64; 65],
+) -> Place
+    ensures { λ r. ⌜ LastStart (now (masks .entry)) (now (sets .entry)) (now (line .entry)) leaves ending r ⌝ }
+{
+    let mut keys = [0u64; 64];
+    let mut values = [0u64; 64];
+    let mut alive = 0u64;
+    let mut leading = leaves & ending;
+    let mut best = Place::Missing;
+    let mut i = run_back(line, line.len(), alive, leading, masks);
+    while 0 < i {
+        i -= 1;
+        alive = alive_before(masks[wide(line[i])], alive, leading, ending, sets);
+        leading = recall(alive, leaves, ending, sets, &mut keys, &mut values);
+        i = run_back(line, i, alive, leading, masks);
+        best = at_if(wants(sets[0], alive), i, best);
+    }
+    best
+}
+
+// The leftmost start. A pattern that matches the empty line begins at the first place.
 fn leftmost_start<'a>(
     line: &'a [u8],
     masks: &'a [u64; 256],
@@ -119,15 +225,11 @@ fn leftmost_start<'a>(
 ) -> Place
     ensures { λ r. ⌜ Leftmost (now (masks .entry)) (now (sets .entry)) (now (ends .entry)) (now (line .entry)) r ⌝ }
 {
-    let mut i = line.len();
-    let mut alive = 0u64;
-    let mut best = at_if(is_start(alive, sets, ends), i, Place::Missing);
-    while 0 < i {
-        i -= 1;
-        alive = alive_back(mask_of(line[i], masks), alive, sets, ends);
-        best = at_if(is_start(alive, sets, ends), i, best);
+    if ends[0] == 1 {
+        return Place::At(0);
     }
-    best
+    let leaves = wanted_leaves(sets);
+    last_start(line, leaves, ending_leaves(leaves, ends), masks, sets)
 }
 
 // No leaf is wanted any more.
@@ -138,6 +240,77 @@ fn is_over(n: usize, all: u64) -> bool
         return all == 0;
     }
     false
+}
+
+// Whether the first n of two lists are equal.
+fn same_leaves<'a>(a: &'a [u8; 64], b: &'a [u8; 64], n: usize) -> bool
+    ensures { λ r. ⌜ SameLeaves r n (now (a .entry)) (now (b .entry)) ⌝ }
+{
+    if 64 < n {
+        return false;
+    }
+    let mut i = 0;
+    while i < n {
+        if a[i] != b[i] {
+            return false;
+        }
+        i += 1;
+    }
+    true
+}
+
+// Whether two standings are the same, where `leaves` says that of the leaves of (a).
+fn same_standing(leaves: bool, s: Standing, t: Standing) -> bool
+    requires { ⌜ SameLeaves leaves (s .n) (s .list) (t .list) ⌝ }
+    ensures { λ r. ⌜ SameIf r s t ⌝ }
+{
+    if s.n != t.n {
+        return false;
+    }
+    if s.all != t.all {
+        return false;
+    }
+    if s.first != t.first {
+        return false;
+    }
+    if s.some != t.some {
+        return false;
+    }
+    leaves
+}
+
+// The place after the run of bytes from i on that the wanted leaves `all` do not tell apart.
+fn run_end<'a>(line: &'a [u8], i: usize, all: u64, masks: &'a [u64; 256]) -> usize
+    requires { ⌜ i < length (now line) ⌝ }
+    ensures { λ r. ⌜ Run (now (masks .entry)) (now (line .entry)) all i r ⌝ }
+{
+    let kind = masks[wide(line[i])] & all;
+    let mut j = i + 1;
+    while j < line.len() {
+        if masks[wide(line[j])] & all != kind {
+            return j;
+        }
+        j += 1;
+    }
+    j
+}
+
+// The next place to look at, where the byte at i carries s to t. If that is the same standing, the bytes of the run keep it too.
+fn next_place<'a>(
+    leaves: bool,
+    s: Standing,
+    t: Standing,
+    line: &'a [u8],
+    i: usize,
+    masks: &'a [u64; 256],
+) -> usize
+    requires { ⌜ SameLeaves leaves (s .n) (s .list) (t .list) × (i < length (now line)) ⌝ }
+    ensures { λ r. ⌜ Passed (now (masks .entry)) (now (line .entry)) s t i r ⌝ }
+{
+    if same_standing(leaves, s, t) {
+        return run_end(line, i, s.all, masks);
+    }
+    i + 1
 }
 
 // From the start on, to the line's end or until no leaf is wanted: the last places where (b) and where (d) hold.
@@ -160,8 +333,10 @@ fn ends_from<'a>(
         if is_over(s.n, s.all) {
             return Ends { greedy, posix };
         }
-        s = s.next(line[i], masks, rows, lens, sets, ends);
-        i += 1;
+        let t = s.next(line[i], masks, rows, lens, sets, ends);
+        let leaves = same_leaves(&s.list, &t.list, s.n);
+        i = next_place(leaves, s, t, line, i, masks);
+        s = t;
         greedy = at_if(s.first, i, greedy);
         posix = at_if(s.some, i, posix);
     }

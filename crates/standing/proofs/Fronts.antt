@@ -7,7 +7,7 @@ use mathlib.Core.List.{List, [], _∷_, _++_, append-nil}
 use native.Mathlib.Omega.{arith}
 use native.Mathlib.Numerals.{add-one}
 use native.Mathlib.Decide.{decLt}
-use lib.ListN.{length, getD, set, take, drop, replicate, length-set, length-replicate, length-drop, drop-of-length-le}
+use lib.ListN.{length, getD, set, take, drop, length-set, length-drop, drop-of-length-le}
 use lib.Seq.{take-all, length-take-le, take-suc-set, drop-cons, getD-take}
 use lib.Dec.{T, eqb, ltb, eqb→eq, eqb·zero-suc}
 use borrow.Author.Tests.{lt-ltb, le-ltb}
@@ -17,26 +17,25 @@ use Rattle.theory.proofs.Tests.{T-true, not-true, or-cases, or-assoc, or-false,
 use Rattle.theory.specs.Code.Members.{nil, cons}
 use Rattle.theory.proofs.Members.{member-append, gather-append, member-from, length-from, once-gather, once-size}
 use Rattle.arrays.specs.Decoded.{hasBit}
-use Rattle.standing.specs.declared.Front.{Front}
-use Rattle.standing.specs.Reads.{order, Sound, leaves, Read, Fronts, rowOf, after}
+use Rattle.standing.specs.Reads.{Gathered, order, Sound, leaves, Read, Fronts, rowOf, after}
 use Rattle.arrays.proofs.Bits.{no-bit}
 
 -- Nothing is read.
-pub blank-fronts : Fronts [] (record { list = replicate 64 0; n = 0; seen = 0; ended = false })
-blank-fronts = record {
-  sound = record { long = length-replicate {A = ℕ} 64 0; size = omega arith; marked = λ p. no-bit p; below = λ p t. absurd t; apart = nil };
+pub blank-fronts : (list : List ℕ) → length list ≡ 64 → Fronts [] (record { list = list; n = 0; seen = 0; ended = false })
+blank-fronts list long = record {
+  sound = record { long = long; size = omega arith; marked = λ p. no-bit p; below = λ p t. absurd t; apart = nil };
   order = refl;
   ended = refl;
 }
 
-pub fronts-read : (e f : Front) (l : List ℕ) → Fronts [] e → Read e l f → Fronts l f
+pub fronts-read : (e f : Gathered) (l : List ℕ) → Fronts [] e → Read e l f → Fronts l f
 fronts-read e f l b c = record {
   sound = c .sound;
   order = c .order ∙ rw (b .ended, b .order);
   ended = c .ended ∙ rw (b .ended);
 }
 
-pub read-none : (f : Front) → Sound f → Read f [] f
+pub read-none : (f : Gathered) → Sound f → Read f [] f
 read-none f s = record { sound = s; order = go (f .ended); ended = sym (or-false (f .ended)) }
   where
     go : (c : Bool) → order f ≡ cond c (order f) (order f)
@@ -44,7 +43,7 @@ read-none f s = record { sound = s; order = go (f .ended); ended = sym (or-false
     go false = refl
 
 -- After an end nothing counts.
-pub read-stop : (f : Front) (l : List ℕ) → Sound f → f .ended ≡ true → Read f l f
+pub read-stop : (f : Gathered) (l : List ℕ) → Sound f → f .ended ≡ true → Read f l f
 read-stop f l s e = record { sound = s; order = rw e; ended = rw e }
 
 leaves-append : (l m : List ℕ) → leaves (l ++ m) ≡ leaves l ++ cond (member 0 l) [] (leaves m)
@@ -59,7 +58,7 @@ leaves-append (suc p ∷ l) m = rw (eqb·zero-suc p, leaves-append l m) (go (ltb
     go true = refl
     go false = refl
 
-pub read-append : (f g h : Front) (l m : List ℕ) → Read f l g → Read g m h → Read f (l ++ m) h
+pub read-append : (f g h : Gathered) (l m : List ℕ) → Read f l g → Read g m h → Read f (l ++ m) h
 read-append f g h l m a b = record {
   sound = b .sound;
   order = b .order ∙ rw (a .ended, a .order, leaves-append l m) (go (f .ended) (member 0 l));
@@ -75,27 +74,27 @@ read-append f g h l m a b = record {
     go false false = sym (gather-append u (leaves l) (leaves m))
 
 -- A loop that reads the rest of a list: what its end gives is what the whole gives.
-abbrev pub Rest : Front → List ℕ → Front → List ℕ → Type 0
-Rest f whole g rest = (h : Front) → Read g rest h → Read f whole h
+abbrev pub Rest : Gathered → List ℕ → Gathered → List ℕ → Type 0
+Rest f whole g rest = (h : Gathered) → Read g rest h → Read f whole h
 
-pub rest-begin : (f : Front) (whole rest : List ℕ) → rest ≡ whole → Rest f whole f rest
+pub rest-begin : (f : Gathered) (whole rest : List ℕ) → rest ≡ whole → Rest f whole f rest
 rest-begin f whole rest e h a = rw e at a
 
-pub rest-more : (f g h : Front) (whole rest l m : List ℕ) → rest ≡ l ++ m → Rest f whole g rest → Read g l h → Rest f whole h m
+pub rest-more : (f g h : Gathered) (whole rest l m : List ℕ) → rest ≡ l ++ m → Rest f whole g rest → Read g l h → Rest f whole h m
 rest-more f g h whole rest l m e k a = λ i b. k i (rw e (read-append g h i l m a b))
 
-pub rest-end : (f g : Front) (whole rest : List ℕ) → rest ≡ [] → Sound g → Rest f whole g rest → Read f whole g
+pub rest-end : (f g : Gathered) (whole rest : List ℕ) → rest ≡ [] → Sound g → Rest f whole g rest → Read f whole g
 rest-end f g whole rest e s k = k g (rw e (read-none g s))
 
 -- One outcome.
-pub read-end : (f : Front) → Sound f → f .ended ≡ false → Read f (0 ∷ []) (record { list = f .list; n = f .n; seen = f .seen; ended = true })
+pub read-end : (f : Gathered) → Sound f → f .ended ≡ false → Read f (0 ∷ []) (record { list = f .list; n = f .n; seen = f .seen; ended = true })
 read-end f s e = record { sound = record { long = s .long; size = s .size; marked = s .marked; below = s .below; apart = s .apart }; order = rw e; ended = rw e }
 
-pub read-over : (f : Front) (x : ℕ) → Sound f → f .ended ≡ false → 64 < x → Read f (x ∷ []) f
+pub read-over : (f : Gathered) (x : ℕ) → Sound f → f .ended ≡ false → 64 < x → Read f (x ∷ []) f
 read-over f zero s e h = absurd (omega arith)
 read-over f (suc p) s e h = record { sound = s; order = rw (e, le-ltb p 64 (omega arith)); ended = rw (e, eqb·zero-suc p) }
 
-module _ (f : Front) (p : ℕ) (s : Sound f) (h : p < 64) (e : f .ended ≡ false) where
+module _ (f : Gathered) (p : ℕ) (s : Sound f) (h : p < 64) (e : f .ended ≡ false) where
   pub read-again : hasBit (f .seen) p ≡ true → Read f (suc p ∷ []) f
   read-again b = record { sound = s; order = rw (e, lt-ltb p 64 h, sym (s .marked p) ∙ b); ended = rw (e, eqb·zero-suc p) }
 

@@ -22,17 +22,16 @@ use Rattle.theory.proofs.Step.{step-start}
 use Rattle.theory.proofs.Closure.{closure-right, gather-once, next-moves, member-zero, member-wants}
 use Rattle.arrays.specs.Decoded.{hasBit}
 use Rattle.standing.specs.declared.Standing.{Standing}
-use Rattle.standing.specs.declared.Front.{Front}
 use Rattle.standing.specs.declared.Wants.{Wants}
 use Rattle.standing.specs.Stands.{means, Lent, Fine}
-use Rattle.standing.specs.Reads.{order, leaves, Fronts, rowOf, after}
+use Rattle.standing.specs.Reads.{Gathered, order, leaves, Fronts, rowOf, after}
 use Rattle.standing.specs.Sets.{Small, goes, Wanted, United}
 use Rattle.arrays.proofs.Bits.{no-bit}
 use Rattle.standing.proofs.Sets.{any-cut, any-filter, filter-cut, member-flat}
 use Rattle.standing.proofs.Outcomes.{Within, front-items, closure-within, flat-within, leaves-front, front-member, front-once}
 
 -- The standing as the code puts it together.
-abbrev pub made : Front → ℕ → Bool → Standing
+abbrev pub made : Gathered → ℕ → Bool → Standing
 made f all some = record { list = f .list; n = f .n; first = f .ended; all = all; some = some }
 
 -- The bits `all` and the flag `some` are the outcomes m.
@@ -45,7 +44,7 @@ pub record Shows (m : List ℕ) (all : ℕ) (some : Bool) : Type 0 where
 abbrev shown : ℕ → List ℕ → List ℕ → Theory.Standing
 shown c l m = record { order = once (front l); first = member 0 l; all = filter (λ p. member (suc p) m) (from 0 c); some = member 0 m }
 
-module _ (r : Re) (most : count r ≤ 64) (l m : List ℕ) (inner : Within (count r) l) (outer : Within (count r) m) (f : Front) (all : ℕ) (some : Bool) (a : Fronts l f) (b : Shows m all some) where
+module _ (r : Re) (most : count r ≤ 64) (l m : List ℕ) (inner : Within (count r) l) (outer : Within (count r) m) (f : Gathered) (all : ℕ) (some : Bool) (a : Fronts l f) (b : Shows m all some) where
   gathered : order f ≡ once (front l)
   gathered = a .order ∙ ap once (leaves-front l λ q t. omega (arith, inner q t))
 
@@ -96,7 +95,7 @@ module _ (masks rows lens sets flags : List ℕ) (r : Re) (d : Lent r masks rows
     ended = row-end 0 (omega arith);
   }
 
-  pub first-right : (f : Front) (x : ℕ) → Fronts (rowOf rows lens 0) f → United 0 (getD sets 0 0) x
+  pub first-right : (f : Gathered) (x : ℕ) → Fronts (rowOf rows lens 0) f → United 0 (getD sets 0 0) x
       → Fine r (made f x (eqb (getD flags 0 0) 1)) × (means (count r) (made f x (eqb (getD flags 0 0) 1)) ≡ standing r [])
   first-right f x a u =
       let w : Within (count r) (rowOf rows lens 0) = rw (d .follows .start) (closure-within r (d .numbered)) in
@@ -145,7 +144,7 @@ module _ (masks rows lens sets flags : List ℕ) (r : Re) (d : Lent r masks rows
         ended = a .some ∙ each 0 (λ p. eqb (getD flags (suc p) 0) 1) (λ p k. row-end (suc p) (omega arith));
       }
 
-    pub next-right : (s : Standing) → Fine r s → (f : Front) (w : Wants) → Fronts (flat (after (getD masks b 0) rows lens) (take (min (s .n) 64) (s .list))) f
+    pub next-right : (s : Standing) → Fine r s → (f : Gathered) (w : Wants) → Fronts (flat (after (getD masks b 0) rows lens) (take (min (s .n) 64) (s .list))) f
         → Wanted (goes (s .all) (getD masks b 0)) sets flags w → Fine r (made f (w .all) (w .some)) × (means (count r) (made f (w .all) (w .some)) ≡ next r (means (count r) s) b)
     next-right s fine f w a c =
         let e : min (s .n) 64 ≡ s .n = omega (arith, fine .size) in

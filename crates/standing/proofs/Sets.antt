@@ -1,8 +1,8 @@
--- Sets as tests: a test of the numbers below a bound, what a filtered list has, and what the loop over the leaves leaves to do.
+-- Sets as tests: a test of the numbers below a bound, what a filtered list has, and what the loop over the leaves of a set leaves to do.
 -- Assumes nothing.
-use mathlib.Core.Path.{_≡_, refl, sym, _∙_}
-use Prim.Native.Nat.{ℕ, zero, suc, _+_, _-_, _≤_, _<_}
-use mathlib.Core.Bool.{Bool, true, false, _&&_, _||_, cond, true≢false}
+use mathlib.Core.Path.{_≡_, refl, sym, ap, _∙_}
+use Prim.Native.Nat.{ℕ, zero, suc, _+_, _≤_, _<_}
+use mathlib.Core.Bool.{Bool, true, false, not, _&&_, _||_, cond, true≢false}
 use mathlib.Core.List.{List, [], _∷_}
 use native.Mathlib.Omega.{arith}
 use native.Mathlib.Decide.{decLt}
@@ -11,13 +11,14 @@ use lib.ListN.{getD}
 use lib.Dec.{T, eqb, eqb→eq}
 use Rattle.theory.specs.Standing.{member, from, filter}
 use Rattle.theory.specs.Code.Closure.{flat}
-use Rattle.theory.proofs.Tests.{T-true, same-test, or-cases, or-assoc, or-false, either}
+use borrow.Author.Tests.{eqb-true}
+use Rattle.theory.proofs.Tests.{T-true, same-test, or-left, or-right, or-cases, or-assoc, or-false, either}
 use Rattle.theory.specs.Code.Members.{any}
 use Rattle.theory.proofs.Members.{any-found, any-of, member-append, member-from}
 use Rattle.arrays.specs.Decoded.{hasBit}
 use Rattle.standing.specs.declared.Wants.{Wants}
-use Rattle.standing.specs.Sets.{Small, United, wants, ends, Joined, Wanted}
-use Rattle.arrays.proofs.Bits.{no-bit}
+use Rattle.standing.specs.Sets.{Small, United, Parted, wants, ends, Joined, Wanted}
+use Rattle.arrays.proofs.Bits.{no-bit, and-true}
 
 pub from-below : (p n d : ℕ) → T (member p (from n d)) → p < n + d
 from-below p n zero t = absurd t
@@ -50,37 +51,66 @@ pub member-flat : (x : ℕ) (f : ℕ → List ℕ) (l : List ℕ) → member x (
 member-flat x f [] = refl
 member-flat x f (p ∷ l) = rw (member-append x (f p) (flat f l), member-flat x f l)
 
--- What the leaves from p on add to w is what all add.
+pub any-ext : (f g : ℕ → Bool) (l : List ℕ) → ((p : ℕ) → f p ≡ g p) → any f l ≡ any g l
+any-ext f g [] e = refl
+any-ext f g (p ∷ l) e = rw (e p, any-ext f g l e)
+
+-- A test of the leaves of a set: of the least, and of the others.
+any-parted : (x p rest : ℕ) → Parted x p rest → (g : ℕ → Bool) → any (λ q. hasBit x q && g q) (from 0 64) ≡ g p || any (λ q. hasBit rest q && g q) (from 0 64)
+any-parted x p rest s g =
+    same-test (any (λ q. hasBit x q && g q) (from 0 64)) (g p || any (λ q. hasBit rest q && g q) (from 0 64))
+    (λ t. let (q, m, u) = any-found (λ q. hasBit x q && g q) (from 0 64) t in apart q m u (eqb q p) refl)
+    (λ t. either (λ u. any-of (λ q. hasBit x q && g q) (from 0 64) p (member-from p 0 64 (omega arith) (omega (arith, s .below))) (rw (s .there) u))
+    (λ u. let (q, m, v) = any-found (λ q. hasBit rest q && g q) (from 0 64) u in any-of (λ q. hasBit x q && g q) (from 0 64) q m (back q v))
+    (or-cases (g p) (any (λ q. hasBit rest q && g q) (from 0 64)) t))
+  where
+    apart : (q : ℕ) → T (member q (from 0 64)) → T (hasBit x q && g q) → (c : Bool) → eqb q p ≡ c → T (g p || any (λ q. hasBit rest q && g q) (from 0 64))
+    apart q m u true e = or-left (g p) _ (rw (eqb-true q p e) at (last (hasBit x q) (g q) u))
+      where
+        last : (a b : Bool) → T (a && b) → T b
+        last true b v = v
+        last false b v = absurd v
+    apart q m u false e = or-right (g p) _ (any-of (λ q. hasBit rest q && g q) (from 0 64) q m (rw (s .others q, e, and-true (hasBit x q)) u))
+
+    back : (q : ℕ) → T (hasBit rest q && g q) → T (hasBit x q && g q)
+    back q v = go (hasBit x q) (not (eqb q p)) (rw (s .others q) at v)
+      where
+        go : (a b : Bool) → T ((a && b) && g q) → T (a && g q)
+        go true true w = w
+        go true false w = absurd w
+        go false b w = absurd w
+
+-- What the leaves of `rest` add to w is what all add.
 module _ (f : ℕ → Bool) (sets flags : List ℕ) where
-  pub record Rest (w : Wants) (p : ℕ) : Type 0 where
-    pub all : (q : ℕ) → (hasBit (w .all) q || any (wants f sets q) (from p (64 - p))) ≡ any (wants f sets q) (from 0 64)
-    pub some : (w .some || any (ends f flags) (from p (64 - p))) ≡ any (ends f flags) (from 0 64)
+  pub record Rest (w : Wants) (rest : ℕ) : Type 0 where
+    pub all : (q : ℕ) → (hasBit (w .all) q || any (wants (hasBit rest) sets q) (from 0 64)) ≡ any (wants f sets q) (from 0 64)
+    pub some : (w .some || any (ends (hasBit rest) flags) (from 0 64)) ≡ any (ends f flags) (from 0 64)
     pub small : Small (w .all)
 
-  pub rest-begin : Rest (record { all = 0; some = false }) 0
-  rest-begin = record { all = λ q. rw (no-bit q); some = refl; small = λ q h. no-bit q }
-
-  any-next : (g : ℕ → Bool) (p : ℕ) → p < 64 → any g (from p (64 - p)) ≡ g p || any g (from (p + 1) (64 - (p + 1)))
-  any-next g p h = let e : 64 - p ≡ suc (64 - (p + 1)) = omega arith in rw (e, add-one p)
-
-  pub rest-turn : (w v : Wants) (p : ℕ) → p < 64 → Rest w p → Joined f sets flags w p v → Rest v (p + 1)
-  rest-turn w v p h r j = record {
-    all = λ q. rw (j .all q, or-assoc) (rw (any-next (wants f sets q) p h) at (r .all q));
-    some = rw (j .some, or-assoc) (rw (any-next (ends f flags) p h) at (r .some));
-    small = j .small (r .small);
+  pub rest-begin : (x : ℕ) → ((p : ℕ) → hasBit x p ≡ f p) → Rest (record { all = 0; some = false }) x
+  rest-begin x e = record {
+    all = λ q. rw (no-bit q) (any-ext (wants (hasBit x) sets q) (wants f sets q) (from 0 64) λ p. rw (e p));
+    some = any-ext (ends (hasBit x) flags) (ends f flags) (from 0 64) λ p. rw (e p);
+    small = λ q h. no-bit q;
   }
 
-  pub rest-end : (w : Wants) → Rest w 64 → Wanted f sets flags w
-  rest-end w r = record {
-    all = λ q. sym (or-false (hasBit (w .all) q)) ∙ r .all q;
-    some = sym (or-false (w .some)) ∙ r .some;
+  pub rest-turn : (w v : Wants) (x p rest : ℕ) → Parted x p rest → Rest w x → Joined sets flags w p v → Rest v rest
+  rest-turn w v x p rest s r j = record {
+    all = λ q. rw (j .all q, or-assoc) (rw (any-parted x p rest s (λ p. hasBit (getD sets (suc p) 0) q)) at (r .all q));
+    some = rw (j .some, or-assoc) (rw (any-parted x p rest s (λ p. eqb (getD flags (suc p) 0) 1)) at (r .some));
+    small = j .small;
+  }
+
+  pub rest-end : (w : Wants) (x : ℕ) → x ≡ 0 → Rest w x → Wanted f sets flags w
+  rest-end w x e r = record {
+    all = λ q. sym (or-false (hasBit (w .all) q)) ∙ ap (λ c. hasBit (w .all) q || c) (sym (none (λ p. hasBit (getD sets (suc p) 0) q))) ∙ r .all q;
+    some = sym (or-false (w .some)) ∙ ap (λ c. w .some || c) (sym (none (λ p. eqb (getD flags (suc p) 0) 1))) ∙ r .some;
     small = r .small;
   }
+    where
+      none : (g : ℕ → Bool) → any (λ p. hasBit x p && g p) (from 0 64) ≡ false
+      none g = any-ext (λ p. hasBit x p && g p) (λ p. false) (from 0 64) (λ p. rw (e, no-bit p))
 
-  -- A leaf that does not go adds nothing; any other adds its row.
-  pub joined-none : (w : Wants) (p : ℕ) → f p ≡ false → Joined f sets flags w p w
-  joined-none w p e = record { all = λ q. rw e (sym (or-false (hasBit (w .all) q))); some = rw e (sym (or-false (w .some))); small = λ s. s }
-
-  pub joined-row : (w : Wants) (p x : ℕ) (s : Bool) → f p ≡ true → United (w .all) (getD sets (p + 1) 0) x → s ≡ (w .some || eqb (getD flags (p + 1) 0) 1)
-      → Joined f sets flags w p (record { all = x; some = s })
-  joined-row w p x s e u k = record { all = λ q. rw (e, ← add-one p) (u .bits q); some = rw (e, ← add-one p) k; small = λ _. u .small }
+pub joined-row : (sets flags : List ℕ) (w : Wants) (p x : ℕ) (s : Bool) → United (w .all) (getD sets (p + 1) 0) x → s ≡ (w .some || eqb (getD flags (p + 1) 0) 1)
+    → Joined sets flags w p (record { all = x; some = s })
+joined-row sets flags w p x s u k = record { all = λ q. rw (← add-one p) (u .bits q); some = rw (← add-one p) k; small = u .small }

@@ -1,8 +1,8 @@
 -- All wanted leaves as bits, as the code joins them from the leaves that take a byte.
 -- Assumes nothing.
 use mathlib.Core.Path.{_≡_}
-use Prim.Native.Nat.{ℕ, suc, _≤_}
-use mathlib.Core.Bool.{Bool, false, _&&_, _||_}
+use Prim.Native.Nat.{ℕ, suc, _≤_, _<_}
+use mathlib.Core.Bool.{Bool, true, false, not, _&&_, _||_}
 use mathlib.Core.List.{List}
 use lib.ListN.{getD}
 use lib.Dec.{eqb}
@@ -20,6 +20,13 @@ pub record United (x y r : ℕ) : Type 0 where
   pub bits : (p : ℕ) → hasBit r p ≡ (hasBit x p || hasBit y p)
   pub small : Small r
 
+-- p is a leaf of the set x, and `rest` are its others.
+pub record Parted (x p rest : ℕ) : Type 0 where
+  pub below : p < 64
+  pub there : hasBit x p ≡ true
+  pub others : (q : ℕ) → hasBit rest q ≡ (hasBit x q && not (eqb q p))
+  pub less : rest < x
+
 -- The leaf p is in the set and takes the byte of the mask.
 abbrev pub goes : ℕ → ℕ → ℕ → Bool
 goes set mask p = hasBit set p && hasBit mask p
@@ -31,11 +38,11 @@ wants f sets q p = f p && hasBit (getD sets (suc p) 0) q
 abbrev pub ends : (ℕ → Bool) → List ℕ → ℕ → Bool
 ends f flags p = f p && eqb (getD flags (suc p) 0) 1
 
--- r is w with what the leaf p adds.
-pub record Joined (f : ℕ → Bool) (sets flags : List ℕ) (w : Wants) (p : ℕ) (r : Wants) : Type 0 where
-  pub all : (q : ℕ) → hasBit (r .all) q ≡ (hasBit (w .all) q || wants f sets q p)
-  pub some : r .some ≡ (w .some || ends f flags p)
-  pub small : Small (w .all) → Small (r .all)
+-- r is w with the row of the leaf p.
+pub record Joined (sets flags : List ℕ) (w : Wants) (p : ℕ) (r : Wants) : Type 0 where
+  pub all : (q : ℕ) → hasBit (r .all) q ≡ (hasBit (w .all) q || hasBit (getD sets (suc p) 0) q)
+  pub some : r .some ≡ (w .some || eqb (getD flags (suc p) 0) 1)
+  pub small : Small (r .all)
 
 -- What the leaves below 64 add.
 pub record Wanted (f : ℕ → Bool) (sets flags : List ℕ) (r : Wants) : Type 0 where

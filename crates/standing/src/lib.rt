@@ -5,11 +5,12 @@ ghost use mathlib.Core.Bool.{false, _||_};
 ghost use mathlib.Core.List.{[], _∷_};
 ghost use Prim.Native.Nat.{suc, _+_, _*_, _≤_, _<_, min};
 ghost use lib.ListN.{length, getD, take};
+ghost use lib.Dec.{eqb};
 ghost use Rattle.theory.specs.Code.Closure.{flat};
 ghost use Rattle.arrays.specs.Decoded.{hasBit};
 ghost use Rattle.standing.specs.Stands.{First, Carried};
-ghost use Rattle.standing.specs.Reads.{Sound, Read, Fronts, rowOf, after};
-ghost use Rattle.standing.specs.Sets.{United, goes, Joined, Wanted};
+ghost use Rattle.standing.specs.Reads.{gathered, Sound, Read, Fronts, Blank, rowOf, after};
+ghost use Rattle.standing.specs.Sets.{United, Parted, goes, Joined, Wanted};
 
 pub struct Standing {
     // (a): the first n of the list
@@ -23,20 +24,25 @@ pub struct Standing {
     pub some: bool,
 }
 
-// The leaves before the first end, as they are gathered from outcomes.
+// The leaves before the first end, as they are gathered from outcomes: the first n of a list that is lent beside it, so that no list is copied on the way.
 struct Front {
-    list: [u8; 64],
     n: usize,
     // the same leaves as bits
     seen: u64,
-    // an end was there: what comes after it counts for nothing
-    ended: bool,
+    // 1 if an end was there: what comes after it counts for nothing. A number, so that the struct goes through registers
+    ends: usize,
 }
 
 // All wanted leaves, and whether there is an end.
 struct Wants {
     all: u64,
     some: bool,
+}
+
+// The least leaf of a set, and the others.
+struct Taken {
+    leaf: usize,
+    rest: u64,
 }
 
 fn wide(x: u8) -> usize
@@ -75,87 +81,112 @@ fn union(x: u64, y: u64) -> u64
 
 impl Front {
     fn empty() -> Front
-        ensures { λ r. ⌜ Fronts [] r ⌝ }
+        ensures { λ r. ⌜ Blank r ⌝ }
     {
         Front {
-            list: [0u8; 64],
             n: 0,
             seen: 0,
-            ended: false,
+            ends: 0,
         }
     }
 
     // The leaf p, unless it is there.
-    fn add(self, p: usize) -> Front
-        requires { ⌜ Sound self × (p < 64) × (self .ended ≡ false) ⌝ }
-        ensures { λ r. ⌜ Read self (suc p ∷ []) r ⌝ }
+    fn add(self, p: usize, list: &mut [u8; 64]) -> Front
+        requires { ⌜ Sound (gathered (now list) self) × (p < 64) × (eqb (self .ends) 1 ≡ false) ⌝ }
+        ensures { λ r. ⌜ Read (gathered (now (list .entry)) self) (suc p ∷ []) (gathered (now (list .exit)) r) ⌝ }
     {
         if has(self.seen, p) {
             return self;
         }
         let n = self.n;
-        let seen = union(self.seen, 1 << p);
-        let mut r = self;
-        r.list[n] = p as u8;
-        r.n = n + 1;
-        r.seen = seen;
-        r
+        list[n] = p as u8;
+        Front {
+            n: n + 1,
+            seen: union(self.seen, 1 << p),
+            ends: self.ends,
+        }
     }
 
     // One outcome more: 0 is the end, and p + 1 the leaf p.
-    fn read(self, x: usize) -> Front
-        requires { ⌜ Sound self × (self .ended ≡ false) ⌝ }
-        ensures { λ r. ⌜ Read self (x ∷ []) r ⌝ }
+    fn read(self, x: usize, list: &mut [u8; 64]) -> Front
+        requires { ⌜ Sound (gathered (now list) self) × (eqb (self .ends) 1 ≡ false) ⌝ }
+        ensures { λ r. ⌜ Read (gathered (now (list .entry)) self) (x ∷ []) (gathered (now (list .exit)) r) ⌝ }
     {
         if x == 0 {
-            let mut r = self;
-            r.ended = true;
-            return r;
+            return Front {
+                n: self.n,
+                seen: self.seen,
+                ends: 1,
+            };
         }
         if x <= 64 {
-            return self.add(x - 1);
+            return self.add(x - 1, list);
         }
         self
     }
 
     // The outcomes of row k in order, up to the first end.
-    fn read_row(self, k: usize, rows: &[u8; 4225], lens: &[u8; 65]) -> Front
-        requires { ⌜ Sound self × (k ≤ 64) ⌝ }
-        ensures { λ r. ⌜ Read self (rowOf (now (rows .entry)) (now (lens .entry)) k) r ⌝ }
+    fn read_row(self, k: usize, rows: &[u8; 4225], lens: &[u8; 65], list: &mut [u8; 64]) -> Front
+        requires { ⌜ Sound (gathered (now list) self) × (k ≤ 64) ⌝ }
+        ensures { λ r. ⌜ Read (gathered (now (list .entry)) self) (rowOf (now (rows .entry)) (now (lens .entry)) k) (gathered (now (list .exit)) r) ⌝ }
     {
         let end = row_end(k, rows, lens);
         let mut r = self;
         let mut i = 65 * k;
         while i < end {
-            if r.ended {
+            if r.ends == 1 {
                 return r;
             }
-            r = r.read(wide(rows[i]));
+            r = r.read(wide(rows[i]), list);
             i += 1;
         }
         r
     }
 
     // The outcomes after a byte of the leaf p, where the mask is the byte's.
-    fn read_leaf(self, p: usize, mask: u64, rows: &[u8; 4225], lens: &[u8; 65]) -> Front
-        requires { ⌜ Sound self ⌝ }
-        ensures { λ r. ⌜ Read self (after mask (now (rows .entry)) (now (lens .entry)) p) r ⌝ }
+    fn read_leaf(
+        self,
+        p: usize,
+        mask: u64,
+        rows: &[u8; 4225],
+        lens: &[u8; 65],
+        list: &mut [u8; 64],
+    ) -> Front
+        requires { ⌜ Sound (gathered (now list) self) ⌝ }
+        ensures { λ r. ⌜ Read (gathered (now (list .entry)) self) (after mask (now (rows .entry)) (now (lens .entry)) p) (gathered (now (list .exit)) r) ⌝ }
     {
         if p < 64 {
             if has(mask, p) {
-                return self.read_row(p + 1, rows, lens);
+                return self.read_row(p + 1, rows, lens, list);
             }
         }
         self
     }
 }
 
-// The leaf p is in the set `from`, and takes the byte of the mask.
-fn takes(from: u64, mask: u64, p: usize) -> bool
-    requires { ⌜ p < 64 ⌝ }
-    ensures { λ r. ⌜ r ≡ goes from mask p ⌝ }
+// The outcomes after a byte of the first n leaves of `from`, in order, up to the first end.
+fn front_after<'a>(
+    from: &'a [u8; 64],
+    n: usize,
+    mask: u64,
+    rows: &'a [u8; 4225],
+    lens: &'a [u8; 65],
+    list: &mut [u8; 64],
+) -> Front
+    requires { ⌜ (length (now from) ≡ 64) × (length (now list) ≡ 64) ⌝ }
+    ensures { λ r. ⌜ Fronts (flat (after mask (now (rows .entry)) (now (lens .entry))) (take (min n 64) (now (from .entry)))) (gathered (now (list .exit)) r) ⌝ }
 {
-    has(from, p) && has(mask, p)
+    let most = least(n, 64);
+    let mut r = Front::empty();
+    let mut i = 0;
+    while i < most {
+        if r.ends == 1 {
+            return r;
+        }
+        r = r.read_leaf(wide(from[i]), mask, rows, lens, list);
+        i += 1;
+    }
+    r
 }
 
 fn or(a: bool, b: bool) -> bool
@@ -164,21 +195,28 @@ fn or(a: bool, b: bool) -> bool
     a || b
 }
 
-// What the leaf p of the set `from` adds to w after a byte, where the mask is the byte's.
-fn join(w: Wants, from: u64, p: usize, mask: u64, sets: &[u64; 65], ends: &[u8; 65]) -> Wants
-    requires { ⌜ p < 64 ⌝ }
-    ensures { λ r. ⌜ Joined (goes from mask) (now (sets .entry)) (now (ends .entry)) w p r ⌝ }
+fn take_least(x: u64) -> Taken
+    requires { ⌜ 0 < x ⌝ }
+    ensures { λ r. ⌜ Parted x (r .leaf) (r .rest) ⌝ }
 {
-    if takes(from, mask, p) {
-        return Wants {
-            all: union(w.all, sets[p + 1]),
-            some: or(w.some, ends[p + 1] == 1),
-        };
+    Taken {
+        leaf: u64::trailing_zeros(x) as usize,
+        rest: x & x - 1,
     }
-    w
 }
 
-// The outcomes after a byte of all leaves of the set `from`.
+// w with the row of the leaf p.
+fn join(w: Wants, p: usize, sets: &[u64; 65], ends: &[u8; 65]) -> Wants
+    requires { ⌜ p < 64 ⌝ }
+    ensures { λ r. ⌜ Joined (now (sets .entry)) (now (ends .entry)) w p r ⌝ }
+{
+    Wants {
+        all: union(w.all, sets[p + 1]),
+        some: or(w.some, ends[p + 1] == 1),
+    }
+}
+
+// The outcomes after a byte of all leaves of the set `from`, where the mask is the byte's: only the leaves of both are looked at.
 fn wants_after(from: u64, mask: u64, sets: &[u64; 65], ends: &[u8; 65]) -> Wants
     ensures { λ r. ⌜ Wanted (goes from mask) (now (sets .entry)) (now (ends .entry)) r ⌝ }
 {
@@ -186,32 +224,16 @@ fn wants_after(from: u64, mask: u64, sets: &[u64; 65], ends: &[u8; 65]) -> Wants
         all: 0,
         some: false,
     };
-    let mut p = 0;
-    while p < 64 {
-        w = join(w, from, p, mask, sets, ends);
-        p += 1;
+    let mut rest = from & mask;
+    while rest != 0 {
+        let t = take_least(rest);
+        w = join(w, t.leaf, sets, ends);
+        rest = t.rest;
     }
     w
 }
 
 impl Standing {
-    // The outcomes after a byte of the leaves of (a), in order, up to the first end.
-    fn front_after(self, mask: u64, rows: &[u8; 4225], lens: &[u8; 65]) -> Front
-        ensures { λ r. ⌜ Fronts (flat (after mask (now (rows .entry)) (now (lens .entry))) (take (min (self .n) 64) (self .list))) r ⌝ }
-    {
-        let n = least(self.n, 64);
-        let mut r = Front::empty();
-        let mut i = 0;
-        while i < n {
-            if r.ended {
-                return r;
-            }
-            r = r.read_leaf(wide(self.list[i]), mask, rows, lens);
-            i += 1;
-        }
-        r
-    }
-
     // The standing of the empty line.
     pub fn initial<'a>(
         masks: &'a [u64; 256],
@@ -222,12 +244,12 @@ impl Standing {
     ) -> Standing
         ensures first { λ r. ⌜ First (now (masks .entry)) (now (rows .entry)) (now (lens .entry)) (now (sets .entry)) (now (ends .entry)) r ⌝ }
     {
-        let front = Front::empty().read_row(0, rows, lens);
-        let list = front.list;
+        let mut list = [0u8; 64];
+        let front = Front::empty().read_row(0, rows, lens, &mut list);
         Standing {
             list,
             n: front.n,
-            first: front.ended,
+            first: front.ends == 1,
             all: union(0, sets[0]),
             some: ends[0] == 1,
         }
@@ -246,13 +268,14 @@ impl Standing {
         ensures next { λ r. ⌜ Carried (now (masks .entry)) (now (rows .entry)) (now (lens .entry)) (now (sets .entry)) (now (ends .entry)) self byte r ⌝ }
     {
         let mask = masks[wide(byte)];
-        let front = self.front_after(mask, rows, lens);
+        let mut list = [0u8; 64];
+        let front = front_after(&self.list, self.n, mask, rows, lens, &mut list);
+        let first = front.ends == 1;
         let wants = wants_after(self.all, mask, sets, ends);
-        let list = front.list;
         Standing {
             list,
             n: front.n,
-            first: front.ended,
+            first,
             all: wants.all,
             some: wants.some,
         }

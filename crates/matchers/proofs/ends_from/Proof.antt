@@ -44,8 +44,11 @@ shared-slice-read-next c = search needs
 next-requires : tie.Need-next-requires Inv-loop μ-loop
 next-requires c κs = search needs
 
-add-i : tie.Need-add-i Inv-loop μ-loop
-add-i c = search needs
+same-leaves-requires : tie.Need-same-leaves-requires Inv-loop μ-loop
+same-leaves-requires c κs = search needs
+
+next-place-requires : tie.Need-next-place-requires Inv-loop μ-loop
+next-place-requires c κs = (c .same-leaves .ensures, omega arith)
 
 at-if-requires-3 : tie.Need-at-if-requires-3 Inv-loop μ-loop
 at-if-requires-3 c κs = search needs
@@ -54,13 +57,13 @@ at-if-requires-4 : tie.Need-at-if-requires-4 Inv-loop μ-loop
 at-if-requires-4 c κs = search needs
 
 loop-less : tie.Need-loop-less Inv-loop μ-loop
-loop-less c = search needs
+loop-less c = omega (arith, c .before .before .next-place .ensures .more, c .before .before .next-place .ensures .within)
 
 loop-again : tie.Need-loop-again Inv-loop μ-loop
 loop-again c =
-    let a = c .before .before .before .before .before .before .before .before .before .before .before .before .args in
-    let l = c .before .before .before .before .before .before .before .loop in
-    ahead-turn (a .masks .now) (a .rows .now) (a .lens .now) (a .sets .now) (a .ends .now) (a .line .now) (a .start) (l .i) (l .s) (c .before .before .next .result) (l .greedy) (c .before .at-if3 .result) (l .posix) (c .at-if4 .result) (omega arith) (l .inv) (c .before .before .next .ensures) (c .before .at-if3 .ensures) (c .at-if4 .ensures)
+    let a = c .before .before .before .before .before .before .before .before .before .before .before .before .before .before .before .before .before .before .args in
+    let l = c .before .before .before .before .before .before .before .before .before .before .before .before .before .loop in
+    ahead-turn (a .masks .now) (a .rows .now) (a .lens .now) (a .sets .now) (a .ends .now) (a .line .now) (a .start) (l .i) (c .before .before .next-place .result) (l .s) (c .before .before .before .before .before .before .before .before .next .result) (l .greedy) (c .before .at-if3 .result) (l .posix) (c .at-if4 .result) (c .before .before .next-place .ensures) (l .inv) (c .before .before .before .before .before .before .before .before .next .ensures) (c .before .at-if3 .ensures) (c .at-if4 .ensures)
 
 returns-2 : tie.Need-returns-2 Inv-loop μ-loop
 returns-2 c =
@@ -82,7 +85,8 @@ ends-from-spec =
     returns
     shared-slice-read-next
     next-requires
-    add-i
+    same-leaves-requires
+    next-place-requires
     at-if-requires-3
     at-if-requires-4
     loop-less

@@ -1,13 +1,9 @@
--- `standing::join` meets its contract: the row of a leaf that takes the byte, and nothing for any other.
+-- `standing::join` meets its contract.
 -- Assumes nothing.
-use mathlib.Core.Path.{sym, _∙_}
-use Rattle.standing.proofs.Sets.{joined-none, joined-row}
+use Rattle.standing.proofs.Sets.{joined-row}
 use borrow.Author.Needs.{needs}
 use Rattle.standing.proofs.join.Statement.{statement}
 use Rattle.standing.proofs.join.Tie as tie
-
-takes-requires : tie.Need-takes-requires
-takes-requires c κs = search needs
 
 add-union : tie.Need-add-union
 add-union c = search needs
@@ -32,19 +28,14 @@ or-requires c κs = search needs
 
 returns : tie.Need-returns
 returns c =
-    let a = c .before .before .before .before .before .before .args in
+    let a = c .before .before .before .before .args in
     let u = c .before .before .union in
-    let taken = sym (c .before .before .before .before .before .takes .ensures) ∙ c .before .before .before .before .if1 .taken in
-    joined-row _ _ _ (a .w) (a .p) (u .result) (c .or .result) taken (u .ensures) (c .or .ensures)
-
-returns-2 : tie.Need-returns-2
-returns-2 c = joined-none _ _ _ (c .before .before .args .w) (c .before .before .args .p) (sym (c .before .takes .ensures) ∙ c .if1 .left)
+    joined-row _ _ (a .w) (a .p) (u .result) (c .or .result) (u .ensures) (c .or .ensures)
 
 pub join-spec : {M : Type 1} → statement M
 join-spec =
     tie.close
     (tie.spec
-    takes-requires
     add-union
     mul-union
     element-copy-out-union
@@ -52,5 +43,4 @@ join-spec =
     add-or
     element-copy-out-or
     or-requires
-    returns
-    returns-2)
+    returns)

@@ -1,44 +1,47 @@
--- `standing::wants_after` meets its contract. The invariant: what the leaves from p on add is what all add. The measure is the leaves left.
+-- `standing::wants_after` meets its contract. The invariant: what the leaves that are left add is what all add. The measure is the number whose bits they are.
 -- Assumes nothing.
 use Rattle.standing.specs.Sets.{goes}
+use Rattle.standing.proofs.Leaves.{and-bit}
 use Rattle.standing.proofs.Sets.{Rest, rest-begin, rest-turn, rest-end}
-use borrow.Author.Needs.{needs}
 use native.Mathlib.Omega.{arith}
-use Prim.Native.Nat.{_≤_, _-_}
-use mathlib.Core.Path.{_≡_}
 use Rattle.standing.proofs.wants_after.Statement.{statement}
 use Rattle.standing.proofs.wants_after.Tie as tie
 
 abbrev Inv-loop : tie.InvT-loop
-Inv-loop from mask sets ends w₀ p₀ w p = (p ≤ 64) × Rest (goes from mask) sets ends w p
+Inv-loop from mask sets ends w₀ rest₀ w rest = Rest (goes from mask) sets ends w rest
 
 abbrev μ-loop : tie.MeasureT-loop
-μ-loop from mask sets ends w₀ p₀ w p = 64 - p
+μ-loop from mask sets ends w₀ rest₀ w rest = rest
 
 loop-holds : tie.Need-loop-holds Inv-loop μ-loop
-loop-holds c = (omega arith, rest-begin _ _ _)
+loop-holds c = rest-begin _ _ _ _ (λ p. and-bit (c .args .from) (c .args .mask) p)
+
+take-least-requires : tie.Need-take-least-requires Inv-loop μ-loop
+take-least-requires c κs = omega arith
 
 join-requires : tie.Need-join-requires Inv-loop μ-loop
-join-requires c κs = search needs
-
-add-p : tie.Need-add-p Inv-loop μ-loop
-add-p c = search needs
+join-requires c κs = c .take-least .ensures .below
 
 loop-less : tie.Need-loop-less Inv-loop μ-loop
-loop-less c = search needs
+loop-less c = c .before .take-least .ensures .less
 
 loop-again : tie.Need-loop-again Inv-loop μ-loop
 loop-again c =
-    let p = c .before .before .loop in
-    (omega arith, rest-turn _ _ _ (p .w) (c .join .result) (p .p) (omega arith) (p .inv .1) (c .join .ensures))
+    let l = c .before .before .before .loop in
+    rest-turn _ _ _ (l .w) (c .join .result) (l .rest) _ _ (c .before .take-least .ensures) (l .inv) (c .join .ensures)
 
 returns : tie.Need-returns Inv-loop μ-loop
-returns c =
-    let p = c .before .loop in
-    let e : p .p ≡ 64 = omega arith in
-    rest-end _ _ _ (p .w) (rw e at (p .inv .1))
+returns c = rest-end _ _ _ (c .before .loop .w) (c .before .loop .rest) (omega arith) (c .before .loop .inv)
 
 pub wants-after-spec : {M : Type 1} → statement M
 wants-after-spec =
     tie.close
-    (tie.spec Inv-loop μ-loop loop-holds join-requires add-p loop-less loop-again returns)
+    (tie.spec
+    Inv-loop
+    μ-loop
+    loop-holds
+    take-least-requires
+    join-requires
+    loop-less
+    loop-again
+    returns)

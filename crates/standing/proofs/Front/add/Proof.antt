@@ -5,6 +5,7 @@ use mathlib.Core.Bool.{_||_}
 use native.Mathlib.Omega.{arith}
 use Rattle.arrays.specs.Decoded.{hasBit}
 use Rattle.arrays.proofs.Bits.{shift-bit}
+use Rattle.standing.specs.Reads.{gathered}
 use Rattle.standing.proofs.Fronts.{read-again, read-room, read-new}
 use borrow.Author.Needs.{needs}
 use Rattle.standing.proofs.Front.add.Statement.{statement}
@@ -17,7 +18,20 @@ returns : tie.Need-returns
 returns c =
     let a = c .before .before .args in
     let h = c .before .before .pre in
-    read-again (a .self) (a .p) (h .0) (h .1) (h .2) (sym (c .before .has .ensures) ∙ c .if1 .taken)
+    read-again (gathered (a .list .now) (a .self)) (a .p) (h .0) (h .1) (h .2) (sym (c .before .has .ensures) ∙ c .if1 .taken)
+
+cast-list : tie.Need-cast-list
+cast-list c = search needs
+
+element-write-list : tie.Need-element-write-list
+element-write-list c =
+    let a = c .before .before .args in
+    let h = c .before .before .pre in
+    let room = read-room (gathered (a .list .now) (a .self)) (a .p) (h .0) (h .1) (h .2) (sym (c .before .has .ensures) ∙ c .if1 .left) in
+    omega arith
+
+add-t9 : tie.Need-add-t9
+add-t9 c = search needs
 
 shl-union : tie.Need-shl-union
 shl-union c = search needs
@@ -25,27 +39,22 @@ shl-union c = search needs
 union-requires : tie.Need-union-requires
 union-requires c κs = search needs
 
-cast-r : tie.Need-cast-r
-cast-r c = search needs
-
-element-write-r : tie.Need-element-write-r
-element-write-r c =
-    let a = c .before .before .before .args in
-    let h = c .before .before .before .pre in
-    let room = read-room (a .self) (a .p) (h .0) (h .1) (h .2) (sym (c .before .before .has .ensures) ∙ c .before .if1 .left) in
-    omega arith
-
-add-r : tie.Need-add-r
-add-r c = search needs
-
 returns-2 : tie.Need-returns-2
 returns-2 c =
     let a = c .before .before .before .args in
     let h = c .before .before .before .pre in
-    read-new (a .self) (a .p) (h .0) (h .1) (h .2) (sym (c .before .before .has .ensures) ∙ c .before .if1 .left) (c .union .result)
+    read-new (gathered (a .list .now) (a .self)) (a .p) (h .0) (h .1) (h .2) (sym (c .before .before .has .ensures) ∙ c .before .if1 .left) (c .union .result)
     (λ q. c .union .ensures .bits q ∙ ap (λ t. hasBit (a .self .seen) q || t) (shift-bit (a .p) q (h .1)))
 
 pub add-spec : {M : Type 1} → statement M
 add-spec =
     tie.close
-    (tie.spec has-requires returns shl-union union-requires cast-r element-write-r add-r returns-2)
+    (tie.spec
+    has-requires
+    returns
+    cast-list
+    element-write-list
+    add-t9
+    shl-union
+    union-requires
+    returns-2)

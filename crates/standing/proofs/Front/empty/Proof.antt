@@ -5,7 +5,7 @@ use Rattle.standing.proofs.Front.empty.Statement.{statement}
 use Rattle.standing.proofs.Front.empty.Tie as tie
 
 returns : tie.Need-returns
-returns c = blank-fronts
+returns c = λ list long. blank-fronts list long
 
 pub empty-spec : {M : Type 1} → statement M
 empty-spec = tie.close (tie.spec returns)

@@ -3,6 +3,7 @@
 use mathlib.Core.Path.{_≡_}
 use Prim.Native.Nat.{suc, _-_}
 use native.Mathlib.Omega.{arith}
+use Rattle.standing.specs.Reads.{gathered}
 use Rattle.standing.proofs.Fronts.{read-end, read-over}
 use borrow.Author.Needs.{needs}
 use Rattle.standing.proofs.Front.read.Statement.{statement}
@@ -10,8 +11,9 @@ use Rattle.standing.proofs.Front.read.Tie as tie
 
 returns : tie.Need-returns
 returns c =
+    let a = c .before .args in
     let h = c .before .pre in
-    rw (c .if1 .taken) (read-end (c .before .args .self) (h .0) (h .1))
+    rw (c .if1 .taken) (read-end (gathered (a .list .now) (a .self)) (h .0) (h .1))
 
 sub-add : tie.Need-sub-add
 sub-add c = search needs
@@ -21,7 +23,7 @@ add-requires c κs = search needs
 
 returns-2 : tie.Need-returns-2
 returns-2 c =
-    let x = c .before .before .before .args .x in
+    let x = c .before .before .before .before .args .x in
     let e : suc (x - 1) ≡ x = omega arith in
     rw e at (c .add .ensures)
 
@@ -29,7 +31,7 @@ returns-3 : tie.Need-returns-3
 returns-3 c =
     let a = c .before .before .args in
     let h = c .before .before .pre in
-    read-over (a .self) (a .x) (h .0) (h .1) (omega arith)
+    read-over (gathered (a .list .now) (a .self)) (a .x) (h .0) (h .1) (omega arith)
 
 pub read-spec : {M : Type 1} → statement M
 read-spec = tie.close (tie.spec returns sub-add add-requires returns-2 returns-3)

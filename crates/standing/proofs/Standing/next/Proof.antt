@@ -1,6 +1,8 @@
 -- `standing::Standing::next` meets its contract: (a) and (b) from the one half, (c) and (d) from the other.
 -- Assumes nothing.
 use native.Mathlib.Omega.{arith}
+use Prim.Native.Nat.{ℕ}
+use lib.ListN.{length-replicate}
 use Rattle.standing.proofs.Right.{next-right}
 use borrow.Author.Needs.{needs}
 use Rattle.standing.proofs.Standing.next.Statement.{statement}
@@ -16,18 +18,17 @@ element-copy-out-mask : tie.Need-element-copy-out-mask
 element-copy-out-mask c = search needs
 
 front-after-requires : tie.Need-front-after-requires
-front-after-requires c κs = search needs
+front-after-requires c κs = (search needs, length-replicate {A = ℕ} 64 0)
 
 wants-after-requires : tie.Need-wants-after-requires
 wants-after-requires c κs = search needs
 
 returns : tie.Need-returns
 returns c = λ r d fine.
-    let a = c .before .before .before .before .before .args in
-    let e = c .before .before .before .before .wide .ensures .0 in
-    let front = c .before .before .front-after in
-    let wants = c .before .wants-after in
-    next-right _ _ _ _ _ r d (a .byte) (omega arith) (a .self) fine (front .result) (wants .result) (rw e at (front .ensures)) (rw e at (wants .ensures))
+    let a = c .before .before .before .before .before .before .before .before .args in
+    let e = c .before .before .before .before .before .before .before .wide .ensures .0 in
+    let wants = c .wants-after in
+    next-right _ _ _ _ _ r d (a .byte) (omega arith) (a .t1) fine _ (wants .result) (rw e at (c .before .before .front-after .ensures)) (rw e at (wants .ensures))
 
 pub next-spec : {M : Type 1} → statement M
 next-spec =

@@ -1,0 +1,61 @@
+-- `matchers::ending_leaves` meets its contract. The invariant: x and the leaves left whose row has the end are all that have it. The measure is the number whose bits are the leaves left.
+-- Assumes nothing.
+use native.Mathlib.Omega.{arith}
+use native.Mathlib.Numerals.{add-one}
+use Prim.Native.Nat.{suc}
+use mathlib.Core.Bool.{_&&_}
+use lib.ListN.{getD}
+use lib.Dec.{eqb}
+use Rattle.arrays.specs.Decoded.{hasBit}
+use Rattle.matchers.proofs.Bits.{Left, left-turn, left-end, ending-begin}
+use Rattle.matchers.proofs.ending_leaves.Statement.{statement}
+use Rattle.matchers.proofs.ending_leaves.Tie as tie
+
+abbrev Inv-loop : tie.InvT-loop
+Inv-loop leaves ends x₀ rest₀ x rest = Left (λ p. eqb (getD ends (suc p) 0) 1) (λ p. hasBit leaves p && eqb (getD ends (suc p) 0) 1) x rest
+
+abbrev μ-loop : tie.MeasureT-loop
+μ-loop leaves ends x₀ rest₀ x rest = rest
+
+loop-holds : tie.Need-loop-holds Inv-loop μ-loop
+loop-holds c = ending-begin (c .args .leaves) (c .args .ends .now)
+
+take-least-requires : tie.Need-take-least-requires Inv-loop μ-loop
+take-least-requires c κs = omega arith
+
+add-add-if : tie.Need-add-add-if Inv-loop μ-loop
+add-add-if c = omega (arith, c .take-least .ensures .below)
+
+element-copy-out-add-if : tie.Need-element-copy-out-add-if Inv-loop μ-loop
+element-copy-out-add-if c = omega (arith, c .take-least .ensures .below)
+
+add-if-requires : tie.Need-add-if-requires Inv-loop μ-loop
+add-if-requires c κs = c .before .take-least .ensures .below
+
+loop-less : tie.Need-loop-less Inv-loop μ-loop
+loop-less c = c .before .before .take-least .ensures .less
+
+loop-again : tie.Need-loop-again Inv-loop μ-loop
+loop-again c =
+    let l = c .before .before .before .before .loop in
+    let t = c .before .before .take-least in
+    let added = rw (add-one (t .result .leaf)) at (c .add-if .ensures) in
+    left-turn _ _ (l .x) (c .add-if .result) (l .rest) (t .result .leaf) (t .result .rest) (l .inv) (t .ensures) added
+
+returns : tie.Need-returns Inv-loop μ-loop
+returns c = left-end _ _ (c .before .loop .x) (c .before .loop .rest) (omega arith) (c .before .loop .inv)
+
+pub ending-leaves-spec : {M : Type 1} → statement M
+ending-leaves-spec =
+    tie.close
+    (tie.spec
+    Inv-loop
+    μ-loop
+    loop-holds
+    take-least-requires
+    add-add-if
+    element-copy-out-add-if
+    add-if-requires
+    loop-less
+    loop-again
+    returns)

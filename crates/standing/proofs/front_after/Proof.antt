@@ -1,0 +1,87 @@
+-- `standing::front_after` meets its contract. The invariant: what the leaves from i on give is what all give. The measure is the leaves left.
+-- Assumes nothing.
+use Rattle.theory.specs.Code.Closure.{flat}
+use Rattle.standing.specs.Reads.{gathered, Sound, after}
+use Rattle.standing.proofs.Fronts.{Rest, rest-more, rest-end, fronts-read, read-stop, list-turn, list-done}
+use borrow.Author.Needs.{needs}
+use borrow.Author.Tests.{eq-eqb}
+use native.Mathlib.Omega.{arith}
+use Prim.Native.Nat.{_≤_, _-_}
+use lib.ListN.{getD, take, drop}
+use Rattle.standing.proofs.front_after.Statement.{statement}
+use Rattle.standing.proofs.front_after.Tie as tie
+
+abbrev Inv-loop : tie.InvT-loop
+Inv-loop from n mask rows lens list₀ most r₀ i₀ list r i = (i ≤ most) × (most ≤ 64) × Sound (gathered list r) × Rest (gathered list₀ r₀) (flat (after mask rows lens) (take most from)) (gathered list r) (flat (after mask rows lens) (drop i (take most from)))
+
+abbrev μ-loop : tie.MeasureT-loop
+μ-loop from n mask rows lens list₀ most r₀ i₀ list r i = most - i
+
+least-requires : tie.Need-least-requires Inv-loop μ-loop
+least-requires c κs = search needs
+
+empty-requires : tie.Need-empty-requires Inv-loop μ-loop
+empty-requires c κs = search needs
+
+loop-holds : tie.Need-loop-holds Inv-loop μ-loop
+loop-holds c = (omega arith, omega arith, c .empty .ensures _ (c .before .before .pre .1) .sound, λ h a. a)
+
+returns : tie.Need-returns Inv-loop μ-loop
+returns c =
+    let p = c .before .before .before .loop in
+    rw (c .before .before .before .before .before .least .ensures) at (fronts-read _ (gathered (p .list) (p .r)) _ (c .before .before .before .before .empty .ensures _ (c .before .before .before .before .before .before .pre .1)) (p .inv .3 (gathered (p .list) (p .r)) (read-stop (gathered (p .list) (p .r)) _ (p .inv .2) (eq-eqb _ 1 (c .if1 .taken)))))
+
+element-copy-out-wide : tie.Need-element-copy-out-wide Inv-loop μ-loop
+element-copy-out-wide c = search needs
+
+wide-requires : tie.Need-wide-requires Inv-loop μ-loop
+wide-requires c κs = search needs
+
+read-leaf-requires : tie.Need-read-leaf-requires Inv-loop μ-loop
+read-leaf-requires c κs = c .before .before .before .before .before .before .loop .inv .2
+
+add-i : tie.Need-add-i Inv-loop μ-loop
+add-i c = search needs
+
+loop-less : tie.Need-loop-less Inv-loop μ-loop
+loop-less c = search needs
+
+loop-again : tie.Need-loop-again Inv-loop μ-loop
+loop-again c =
+    let a = c .before .before .before .before .before .before .before .before .before .before .args in
+    let p = c .before .before .before .before .before .before .before .loop in
+    let n = c .before .before .before .before .before .before .before .before .before .least .result in
+    let list = a .from .now in
+    let outcomes = after (a .mask) (a .rows .now) (a .lens .now) in (
+      omega arith,
+      omega arith,
+      c .read-leaf .ensures .sound,
+      rest-more _ (gathered (p .list) (p .r)) _ _ _ (outcomes (getD list (p .i) 0)) _ (list-turn outcomes list n (omega arith) (p .i) (omega arith)) (p .inv .3) (rw (c .before .before .wide .ensures .0) at (c .read-leaf .ensures)),
+    )
+
+returns-2 : tie.Need-returns-2 Inv-loop μ-loop
+returns-2 c =
+    let a = c .before .before .before .before .args in
+    let p = c .before .loop in
+    let list = a .from .now in
+    let outcomes = after (a .mask) (a .rows .now) (a .lens .now) in
+    rw (c .before .before .before .least .ensures) at
+    (fronts-read _ (gathered (p .list) (p .r)) _ (c .before .before .empty .ensures _ (c .before .before .before .before .pre .1)) (rest-end _ (gathered (p .list) (p .r)) _ _ (list-done outcomes list (c .before .before .before .least .result) (omega arith) (p .i) (omega arith)) (p .inv .2) (p .inv .3)))
+
+pub front-after-spec : {M : Type 1} → statement M
+front-after-spec =
+    tie.close
+    (tie.spec
+    Inv-loop
+    μ-loop
+    least-requires
+    empty-requires
+    loop-holds
+    returns
+    element-copy-out-wide
+    wide-requires
+    read-leaf-requires
+    add-i
+    loop-less
+    loop-again
+    returns-2)
