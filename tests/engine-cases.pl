@@ -1,0 +1,275 @@
+# The cases of tests/engines: patterns, each in three spellings (ours, Perl's, glibc's), with lines. All small patterns over two bytes (`small_cases`) and random
+# ones of every construct within the limits (`random_case`).
+#
+# The spellings differ in leaves, groups and counts. For Perl every byte is an escape, so that none is special, every class and `.` lists ranges of escapes, so that
+# no Unicode rule enters, and a group captures nothing. For glibc, with the extended syntax in the C locale, a special byte stands after `\`, every class and `.` is
+# a bracket expression of its bytes, and the empty sequence is `()`.
+#
+# No part that matches the empty string is under a repeat. All six signs count, `?` and `{m}` too: on an empty turn each engine has rules of its own (the paper
+# drops it, Perl leaves the loop), and without one a sign has the same meaning everywhere.
+use strict;
+use warnings;
+use List::Util qw(min sum0);
+
+use constant {
+    LINES => 31,      # of a pattern: as many as there are over two bytes up to length 4
+    LONGEST => 70,    # bytes of a line: patterns of weight 64 can match
+};
+my $SPECIAL = qr/[\\|()\[\]{}*+?.^\$]/;
+my @BYTES = map { chr } 0 .. 255;
+# The named sets as ranges, by the POSIX locale over ASCII, so that no engine's table and no locale has a say.
+my %SETS = (
+    alpha => [[65, 90], [97, 122]], digit => [[48, 57]], alnum => [[48, 57], [65, 90], [97, 122]], upper => [[65, 90]], lower => [[97, 122]],
+    xdigit => [[48, 57], [65, 70], [97, 102]], space => [[9, 13], [32, 32]], punct => [[33, 47], [58, 64], [91, 96], [123, 126]],
+);
+my @NAMES = sort keys %SETS;
+# Any byte of a pattern's text or of a line: 10 ends it.
+my @ANY = @BYTES[0 .. 9, 11 .. 255];
+# A pattern's own bytes, which its leaves and lines are made of, are of one of these kinds or two.
+my @KINDS = (['a' .. 'c'], ['a' .. 'c'], [qw(a B 7 _ z)], [split //, '\\|()[]{}*+?.^$'], [split //, ']-[^\\:='], [@BYTES[0 .. 9, 11 .. 31, 127]],
+    [@BYTES[128 .. 255]], [' ', "\t", "\r", 'x', '.', '~'], \@ANY);
+my @own;
+
+sub pick { return $_[rand @_] }
+
+# ---- Parts of a pattern: kind, three spellings, whether it matches the empty string, weight, and a sub that gives a sample of what it matches.
+
+# A set for glibc: `]` first, `-` last, `^` before it; the rest ascends, so that no `[` stands before `.`, `:` or `=`. Byte 0, which regcomp cannot be given, is in
+# a set by not being listed; to hold all bytes or none takes two leaves. glibc's own `.` would not do: it takes 10 and not 0.
+sub bracket_expression {
+    my ($members) = @_;
+    return $members =~ s/($SPECIAL)/\\$1/r if $members =~ /^[^\0]\z/;
+    return '(a^)' if $members eq '';
+    my $not = $members =~ /\0/ ? '^' : '';
+    my $listed = $not ? join('', grep { index($members, $_) < 0 } @BYTES) : $members;
+    return '(a|[^a])' if $listed eq '';
+    return '[-^]' if !$not && $listed eq '-^';
+    my ($first, $caret, $last) = map { index($listed, $_) < 0 ? '' : $_ } ']', '^', '-';
+    return "[$not$first" . $listed =~ tr/]^\-//dr . "$caret$last]";
+}
+
+# The text's leaf holds the bytes of the ranges or, negated, all others. A sample is mostly of the pattern's own bytes, and empty where no line can match.
+sub leaf {
+    my ($text, $negated, @ranges) = @_;
+    my $escapes = join '', map { sprintf '\x{%x}-\x{%x}', @$_ } @ranges;
+    my $listed = join '', map { @BYTES[$_->[0] .. $_->[1]] } @ranges;
+    my $members = join '', grep { index($listed, $_) >= 0 xor $negated } @BYTES;
+    my $own = join '', grep { index($members, $_) >= 0 } @own;
+    my $others = $members =~ tr/\n//dr;
+    return {
+        kind => 'leaf', ours => $text, posix => bracket_expression($members),
+        perl => $negated ? "[^$escapes]" : length $listed == 1 ? sprintf('\x{%x}', ord $listed) : "[$escapes]",
+        empty => 0, weight => 1, sample => sub { my $from = $own ne '' && rand() < 0.8 ? $own : $others; substr $from, rand length $from, 1 },
+    };
+}
+
+sub byte {
+    my ($byte) = @_;
+    return leaf($byte =~ s/($SPECIAL)/\\$1/r, 0, [ord $byte, ord $byte]);
+}
+
+sub spellings {
+    my ($by, @parts) = @_;
+    return map { my $for = $_; $for => join $by, map { $_->{$for} } @parts } qw(ours perl posix);
+}
+
+sub sequence {
+    my @atoms = @_;
+    return {
+        kind => 'sequence', @atoms ? spellings('', @atoms) : (ours => '', perl => '', posix => '()'), empty => !grep({ !$_->{empty} } @atoms),
+        weight => sum0(map { $_->{weight} } @atoms) || 1, sample => sub { join '', map { $_->{sample}->() } @atoms },
+    };
+}
+
+sub alternation {
+    my @sequences = @_;
+    return {
+        kind => 'alternation', spellings('|', @sequences), empty => 0 < grep({ $_->{empty} } @sequences),
+        weight => sum0(map { $_->{weight} } @sequences), sample => sub { pick(@sequences)->{sample}->() },
+    };
+}
+
+sub group {
+    my ($part) = @_;
+    return { %$part, kind => 'group', ours => "($part->{ours})", perl => "(?:$part->{perl})", posix => "($part->{posix})" };
+}
+
+# Without a most there is no bound.
+sub repeat {
+    my ($atom, $sign, $least, $most) = @_;
+    # Perl takes no leading zero in a count.
+    my $plain = $sign =~ s/\b0(?=\d)//gr;
+    my $sample = sub {
+        my $times = defined $most && rand() < 0.2 ? $most : $least;
+        $times++ while (!defined $most || $times < $most) && rand() < 0.6;
+        return join '', map { $atom->{sample}->() } 1 .. $times;
+    };
+    return {
+        kind => 'repeat', ours => $atom->{ours} . $sign, perl => $atom->{perl} . $plain, posix => $atom->{posix} . $plain, empty => $least == 0,
+        weight => $atom->{weight} * ($most // $least + 1) || 1, sample => $sample,
+    };
+}
+
+# ---- Patterns.
+
+# All parts of so many leaves, empty alternatives and signs (`*`, `+`, `?` or `{2}`) over the bytes a and b.
+sub small_parts {
+    my ($size) = @_;
+    return (byte('a'), byte('b'), sequence()) if $size == 1;
+    my @parts;
+    for my $left (1 .. $size - 1) {
+        my @second = small_parts($size - $left);
+        for my $first (small_parts($left)) {
+            push @parts, map { alternation($first, $_) } $first->{kind} eq 'alternation' ? () : @second;
+            push @parts, map { sequence(map { $_->{kind} eq 'alternation' ? group($_) : $_ } $first, $_) }
+                $first->{kind} eq 'sequence' ? () : grep { $_->{ours} ne '' } @second;
+        }
+    }
+    for my $atom (map { $_->{kind} eq 'leaf' ? $_ : group($_) } grep { !$_->{empty} } small_parts($size - 1)) {
+        push @parts, repeat($atom, '*', 0), repeat($atom, '+', 1), repeat($atom, '?', 0, 1), repeat($atom, '{2}', 2, 2);
+    }
+    return @parts;
+}
+
+sub class_item { return join '-', map { chr =~ s/([\\\]\[^-])/\\$1/r } @_ }
+
+sub random_class {
+    my ($text, @ranges) = ('');
+    # Now and then all bytes, those up to 9, or all but 10, or, negated, the rest: sets that hold no byte, or 10 as their first.
+    @ranges = @{pick([[0, 255]], [[0, 9]], [[0, 9], [11, 255]])} if rand() < 0.02;
+    $text .= class_item(@$_) for @ranges;
+    for (1 .. (@ranges ? 0 : pick(1, 1, 2, 2, 3, 5))) {
+        my ($name, $low) = (pick(@NAMES), ord pick(@own));
+        my $high = min(255, $low + int rand(pick(1, 4, 4, 256)));
+        my @item = rand() < 0.5 ? ($low) : ($low, $high == 10 ? $low : $high);
+        my $named = rand() < 0.25;
+        $text .= $named ? "[:$name:]" : class_item(@item);
+        push @ranges, $named ? @{$SETS{$name}} : [@item[0, -1]];
+    }
+    my $negated = rand() < 0.3;
+    return leaf('[' . ($negated ? '^' : '') . "$text]", $negated, @ranges);
+}
+
+# The atom, half the time under a sign that keeps its weight within what is left.
+sub random_repeat {
+    my ($atom, $left) = @_;
+    return $atom if $atom->{empty} || rand() < 0.5;
+    my $copies = min(63, int($left / $atom->{weight}));
+    my $up_to = sub { int rand(1 + (rand() < 0.9 ? min(3, $_[0]) : $_[0])) };
+    my ($n, $open) = ($up_to->($copies), $up_to->($copies - 1));
+    my $m = $up_to->($n);
+    my $count = pick('%d', '%d', '%d', '%02d');
+    return repeat($atom, @{pick(['*', 0], $copies > 1 ? ['+', 1] : ['*', 0], ['?', 0, 1], [sprintf("{$count}", $n), $n, $n],
+        [sprintf("{$count,}", $open), $open], [sprintf("{$count,$count}", $m, $n), $m, $n])});
+}
+
+# The next three weigh at most what is left, and have so many brackets open together at most; nest says how readily one opens.
+sub random_atom {
+    my ($left, $deep, $nest) = @_;
+    return group(random_alternation($left, $deep - 1, $nest)) if $deep && rand() < $nest;
+    my $kind = rand;
+    return $kind < 0.6 ? byte(pick(@own)) : $kind < 0.9 ? random_class() : leaf('.', 1, [10, 10]);
+}
+
+sub random_sequence {
+    my ($left, $deep, $nest) = @_;
+    my @atoms;
+    while ($left > 0 && rand() < (@atoms ? 0.6 : 0.93)) {
+        push @atoms, random_repeat(random_atom($left, $deep, $nest), $left);
+        $left -= $atoms[-1]{weight};
+    }
+    return sequence(@atoms);
+}
+
+sub random_alternation {
+    my ($left, $deep, $nest) = @_;
+    my @sequences;
+    do {
+        push @sequences, random_sequence($left, $deep, $nest);
+        $left -= $sequences[-1]{weight};
+    } while $left > 0 && rand() < 0.45;
+    return alternation(@sequences);
+}
+
+sub random_pattern {
+    my @kinds = map { @$_ } pick(@KINDS), rand() < 0.2 ? pick(@KINDS) : ();
+    @own = map { pick(@kinds) } 1 .. pick(1, 2, 2, 3, 3, 4);
+    my ($deep, $nest) = @{pick([1, 0.3], [2, 0.3], [3, 0.3], [4, 0.3], [16, 0.5], [16, 0.95])};
+    my $pattern = random_alternation(pick(4, 6, 8, 12, 16, 24, 64), $deep, $nest);
+    return length $pattern->{ours} > 255 ? random_pattern() : $pattern;
+}
+
+# ---- Lines.
+
+sub random_bytes {
+    my ($most, @from) = @_;
+    return join '', map { pick(@from) } 1 .. rand(1 + $most);
+}
+
+# One byte changed, added or left out.
+sub nearly {
+    my ($line) = @_;
+    my ($place, $byte) = (int rand(1 + length $line), pick(@own, pick(@ANY)));
+    substr $line, $place, ($place < length $line ? pick(0, 1, 1) : 0), pick($byte, $byte, '');
+    return $line;
+}
+
+sub random_lines {
+    my ($pattern) = @_;
+    my %lines = ('' => 1);
+    for (2 .. 2 * LINES) {
+        my ($kind, $sample) = (rand, $pattern->{sample}->());
+        my $line = $kind < 0.25 ? $sample : $kind < 0.45 ? nearly($sample)
+            : $kind < 0.7 ? random_bytes(8, @own) . pick($sample, nearly($sample)) . random_bytes(8, @own)
+            : $kind < 0.9 ? random_bytes(25, @own) : $kind < 0.95 ? random_bytes(15, @BYTES[128 .. 255]) : random_bytes(15, @ANY);
+        $lines{substr $line, 0, LONGEST} = 1;
+        last if keys %lines == LINES;
+    }
+    return sort keys %lines;
+}
+
+sub short_lines {
+    my @lines = my @longest = ('');
+    push @lines, @longest = map { ("${_}a", "${_}b") } @longest for 1 .. 4;
+    return @lines;
+}
+
+# ---- Cases.
+
+sub case_of {
+    my ($pattern, @lines) = @_;
+    return { map({ $_ => $pattern->{$_} } qw(ours perl posix)), lines => \@lines };
+}
+
+sub random_case {
+    my $pattern = random_pattern();
+    return case_of($pattern, random_lines($pattern));
+}
+
+# Of two patterns that differ by a and b swapped, one.
+sub small_cases {
+    @own = ();
+    return map { case_of($_, short_lines()) } grep { $_->{ours} !~ /^[^a]*b/ } map { small_parts($_) } 1 .. 4;
+}
+
+# The constructs in a pattern's text, for the summary. Each is told by one token of the text.
+my @CONSTRUCTS = (
+    ['escaped byte', qr/^\\/], ['byte above 127', qr/^[\x80-\xff]/], ['control byte', qr/^[\0-\x1f\x7f]/], ['.', qr/^\./], ['group', qr/^\(/],
+    ['alternation', qr/^\|/], ['class', qr/^\[[^^]/], ['negated class', qr/^\[\^/], ['range', qr/^\[(\\.|[^\\-])*-/s], ['escape in a class', qr/^\[.*\\/s],
+    map({ [$_, qr/^\[.*\[:$_:\]/s] } @NAMES),
+    ['*', qr/^\*/], ['+', qr/^\+/], ['?', qr/^\?/], ['{m}', qr/^\{\d+\}/], ['{m,}', qr/^\{\d+,\}/], ['{m,n}', qr/^\{\d+,\d/],
+);
+
+sub constructs {
+    my ($text) = @_;
+    my ($last, %has) = ('(');
+    for my $token ($text =~ /\\.|\[(?:\[:\w+:\]|\\.|[^\]\\])+\]|\{[\d,]+\}|./gs, ')') {
+        $has{$_->[0]} = 1 for grep { $token =~ $_->[1] } @CONSTRUCTS;
+        $has{'empty sequence'} = 1 if $last =~ /^[(|]$/ && $token =~ /^[|)]$/;
+        $has{'repeat of a group'} = 1 if $last eq ')' && $token =~ /^[*+?{]/;
+        $last = $token;
+    }
+    return keys %has;
+}
+
+1;
