@@ -2,7 +2,7 @@
 -- Assumes nothing.
 use mathlib.Core.Path.{_≡_}
 use Prim.Native.Nat.{ℕ}
-use mathlib.Core.List.{List}
+use mathlib.Core.List.{List, [], _∷_, _++_}
 use lib.ListN.{length}
 use Rattle.printing.specs.Text.{Appended, Field}
 
@@ -16,3 +16,11 @@ pub record PutField (x : ℕ) (old : List ℕ) (n : ℕ) (new : List ℕ) (m : �
   pub text : List ℕ
   pub field : Field x text
   pub put : Put old n text new m
+
+-- A line of the kind L is appended.
+abbrev pub PutLine : (List ℕ → Type 0) → List ℕ → ℕ → List ℕ → ℕ → Type 0
+PutLine L old n new m = (w : List ℕ) × L w × Put old n w new m
+
+-- A line of the kind L without its newline.
+abbrev pub Unended : (List ℕ → Type 0) → List ℕ → Type 0
+Unended L w = L (w ++ (10 ∷ []))

@@ -62,6 +62,14 @@ pub record SpansLine (start greedy posix : ℕ) (w : List ℕ) : Type 0 where
   pub longest : Field posix long
   pub text : w ≡ (103 ∷ 114 ∷ 101 ∷ 101 ∷ 100 ∷ 121 ∷ []) ++ (from ++ (short ++ ((32 ∷ 112 ∷ 111 ∷ 115 ∷ 105 ∷ 120 ∷ []) ++ (from ++ (long ++ (10 ∷ []))))))
 
+-- The verdict unlike, without its newline, and after a space the spans of the witness.
+pub record ExplainedLine (count : ℕ) (witness : List ℕ) (start greedy posix : ℕ) (w : List ℕ) : Type 0 where
+  pub verdict : List ℕ
+  pub spans : List ℕ
+  pub is : UnlikeLine count witness (verdict ++ (10 ∷ []))
+  pub cut : SpansLine start greedy posix spans
+  pub text : w ≡ verdict ++ (32 ∷ spans)
+
 -- A line of the kind L is appended.
 abbrev pub Printed : (List ℕ → Type 0) → List ℕ → ℕ → List ℕ → ℕ → Type 0
 Printed L old n new m = (w : List ℕ) × L w × Appended old n w new m

@@ -1,12 +1,12 @@
 // The lines that the programs print, appended to a lent buffer: paper 01, "The programs". What does not fit is cut off; a program writes its buffer out in time.
 ghost use mathlib.Core.Path.{_≡_};
-ghost use mathlib.Core.List.{[], _∷_};
+ghost use mathlib.Core.List.{[], _∷_, _++_};
 ghost use Prim.Native.Nat.{_<_, min};
 ghost use lib.ListN.{length, take};
 ghost use Rattle.io.specs.Digits.{digits};
 ghost use Rattle.io.specs.Digits.{glyph as Digits·glyph};
-ghost use Rattle.printing.specs.Text.{Appended, Printed, hex, AlikeLine, UnlikeLine, RefusedLine, SpansLine, noneLine};
-ghost use Rattle.printing.specs.Puts.{Put, PutField};
+ghost use Rattle.printing.specs.Text.{Appended, Printed, hex, AlikeLine, UnlikeLine, RefusedLine, SpansLine, ExplainedLine, noneLine};
+ghost use Rattle.printing.specs.Puts.{Put, PutField, PutLine, Unended};
 
 // How many bytes the buffer has.
 fn size(out: &[u8; 65536]) -> usize
@@ -102,15 +102,22 @@ pub fn alike(out: &mut [u8; 65536], n: usize, count: usize) -> usize
     put_byte(out, field, b'\n')
 }
 
-// 'unlike COUNT WITNESS', the first `length` bytes of the buffer in hex
-pub fn unlike(out: &mut [u8; 65536], n: usize, count: usize, length: usize, witness: &[u8]) -> usize
-    ensures printed { λ r. ⌜ Printed (UnlikeLine count (take length (now (witness .entry)))) (now (out .entry)) n (now (out .exit)) r ⌝ }
+// 'unlike COUNT WITNESS' without its newline
+fn put_unlike(out: &mut [u8; 65536], n: usize, count: usize, length: usize, witness: &[u8]) -> usize
+    ensures { λ r. ⌜ PutLine (Unended (UnlikeLine count (take length (now (witness .entry))))) (now (out .entry)) n (now (out .exit)) r ⌝ }
 {
     let word = put(out, n, b"unlike");
     let field = put_field(out, word, count);
     let space = put_byte(out, field, b' ');
-    let bytes = put_hex(out, space, witness, length);
-    put_byte(out, bytes, b'\n')
+    put_hex(out, space, witness, length)
+}
+
+// 'unlike COUNT WITNESS', the first `length` bytes of the buffer in hex
+pub fn unlike(out: &mut [u8; 65536], n: usize, count: usize, length: usize, witness: &[u8]) -> usize
+    ensures printed { λ r. ⌜ Printed (UnlikeLine count (take length (now (witness .entry)))) (now (out .entry)) n (now (out .exit)) r ⌝ }
+{
+    let verdict = put_unlike(out, n, count, length, witness);
+    put_byte(out, verdict, b'\n')
 }
 
 // 'refused NUMBER PLACE'
@@ -130,9 +137,8 @@ pub fn none(out: &mut [u8; 65536], n: usize) -> usize
     put(out, n, b"none\n")
 }
 
-// 'greedy START END posix START END'
-pub fn spans(out: &mut [u8; 65536], n: usize, start: usize, greedy: usize, posix: usize) -> usize
-    ensures printed { λ r. ⌜ Printed (SpansLine start greedy posix) (now (out .entry)) n (now (out .exit)) r ⌝ }
+fn put_spans(out: &mut [u8; 65536], n: usize, start: usize, greedy: usize, posix: usize) -> usize
+    ensures { λ r. ⌜ PutLine (SpansLine start greedy posix) (now (out .entry)) n (now (out .exit)) r ⌝ }
 {
     let first = put(out, n, b"greedy");
     let from = put_field(out, first, start);
@@ -141,4 +147,45 @@ pub fn spans(out: &mut [u8; 65536], n: usize, start: usize, greedy: usize, posix
     let again = put_field(out, second, start);
     let long = put_field(out, again, posix);
     put_byte(out, long, b'\n')
+}
+
+// 'greedy START END posix START END'
+pub fn spans(out: &mut [u8; 65536], n: usize, start: usize, greedy: usize, posix: usize) -> usize
+    ensures printed { λ r. ⌜ Printed (SpansLine start greedy posix) (now (out .entry)) n (now (out .exit)) r ⌝ }
+{
+    put_spans(out, n, start, greedy, posix)
+}
+
+// 'unlike COUNT WITNESS greedy START END posix START END': the verdict, and how the witness is cut
+pub fn explained(
+    out: &mut [u8; 65536],
+    n: usize,
+    count: usize,
+    length: usize,
+    witness: &[u8],
+    start: usize,
+    greedy: usize,
+    posix: usize,
+) -> usize
+    ensures printed { λ r. ⌜ Printed (ExplainedLine count (take length (now (witness .entry))) start greedy posix) (now (out .entry)) n (now (out .exit)) r ⌝ }
+{
+    let verdict = put_unlike(out, n, count, length, witness);
+    let gap = put_byte(out, verdict, b' ');
+    put_spans(out, gap, start, greedy, posix)
+}
+
+// The bytes of a slice in hex, on a line.
+pub fn bytes(out: &mut [u8; 65536], n: usize, s: &[u8]) -> usize
+    ensures printed { λ r. ⌜ Appended (now (out .entry)) n (hex (now (s .entry)) ++ (10 ∷ [])) (now (out .exit)) r ⌝ }
+{
+    let pairs = put_hex(out, n, s, s.len());
+    put_byte(out, pairs, b'\n')
+}
+
+// The bytes of a slice as they are, on a line.
+pub fn text(out: &mut [u8; 65536], n: usize, s: &[u8]) -> usize
+    ensures printed { λ r. ⌜ Appended (now (out .entry)) n (now (s .entry) ++ (10 ∷ [])) (now (out .exit)) r ⌝ }
+{
+    let all = put(out, n, s);
+    put_byte(out, all, b'\n')
 }

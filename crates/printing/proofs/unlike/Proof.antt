@@ -1,48 +1,18 @@
--- `printing::unlike` meets its contract: each step appends its part of the line.
+-- `printing::unlike` meets its contract: the line is ended.
 -- Assumes nothing.
-use mathlib.Core.Path.{refl}
-use Rattle.printing.proofs.Laws.{appended-join}
 use borrow.Author.Needs.{needs}
+use Rattle.printing.proofs.Laws.{appended-join}
 use Rattle.printing.proofs.unlike.Statement.{statement}
 use Rattle.printing.proofs.unlike.Tie as tie
 
-slice-aggregate-put : tie.Need-slice-aggregate-put
-slice-aggregate-put c = search needs
-
-put-requires : tie.Need-put-requires
-put-requires c κs = search needs
-
-put-field-requires : tie.Need-put-field-requires
-put-field-requires c κs = search needs
+put-unlike-requires : tie.Need-put-unlike-requires
+put-unlike-requires c κs = search needs
 
 put-byte-requires : tie.Need-put-byte-requires
 put-byte-requires c κs = search needs
 
-put-hex-requires : tie.Need-put-hex-requires
-put-hex-requires c κs = search needs
-
-put-byte-requires-2 : tie.Need-put-byte-requires-2
-put-byte-requires-2 c κs = search needs
-
 returns : tie.Need-returns
-returns c =
-    let f = c .before .before .before .before .before .before .put-field .ensures in (
-      _,
-      record { field = f .text; is = f .field; text = refl },
-      appended-join (c .before .before .before .before .before .before .before .before .put .ensures)
-          (appended-join (f .put)
-          (appended-join (c .before .before .before .before .put-byte .ensures)
-          (appended-join (c .before .before .put-hex .ensures) (c .put-byte2 .ensures)))) .appended,
-    )
+returns c = let v = c .before .before .put-unlike .ensures in (_, v .1, appended-join (v .2) (c .put-byte .ensures) .appended)
 
 pub unlike-spec : {M : Type 1} → statement M
-unlike-spec =
-    tie.close
-    (tie.spec
-    slice-aggregate-put
-    put-requires
-    put-field-requires
-    put-byte-requires
-    put-hex-requires
-    put-byte-requires-2
-    returns)
+unlike-spec = tie.close (tie.spec put-unlike-requires put-byte-requires returns)

@@ -1,11 +1,11 @@
--- `match_lines::first_of` takes a part that the slice has.
+-- `lines::first_of` takes a part that the slice has, or all of it.
 -- Assumes nothing.
 use mathlib.Core.Path.{sym}
 use native.Mathlib.Omega.{arith}
-use lib.Seq.{length-take-le}
+use lib.Seq.{length-take-le, take-all}
 use borrow.Author.Needs.{needs}
-use Rattle.match_lines.proofs.first_of.Statement.{statement}
-use Rattle.match_lines.proofs.first_of.Tie as tie
+use Rattle.lines.proofs.first_of.Statement.{statement}
+use Rattle.lines.proofs.first_of.Tie as tie
 
 slice-aggregate-result : tie.Need-slice-aggregate-result
 slice-aggregate-result c = sym (length-take-le _ _ (omega arith))
@@ -14,7 +14,7 @@ returns : tie.Need-returns
 returns c = search needs
 
 returns-2 : tie.Need-returns-2
-returns-2 c = search needs
+returns-2 c = let a = c .before .args in sym (take-all (a .n) (a .s .now) (omega arith))
 
 pub first-of-spec : {M : Type 1} → statement M
 first-of-spec = tie.close (tie.spec slice-aggregate-result returns returns-2)

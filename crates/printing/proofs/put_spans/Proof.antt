@@ -1,10 +1,10 @@
--- `printing::spans` meets its contract: each step appends its part of the line, and the start has the same text both times.
+-- `printing::put_spans` meets its contract: each step appends its part of the line, and the start has the same text both times.
 -- Assumes nothing.
 use mathlib.Core.Path.{refl}
 use Rattle.printing.proofs.Laws.{appended-join, same-put, field-one}
 use borrow.Author.Needs.{needs}
-use Rattle.printing.proofs.spans.Statement.{statement}
-use Rattle.printing.proofs.spans.Tie as tie
+use Rattle.printing.proofs.put_spans.Statement.{statement}
+use Rattle.printing.proofs.put_spans.Tie as tie
 
 slice-aggregate-put : tie.Need-slice-aggregate-put
 slice-aggregate-put c = search needs
@@ -54,11 +54,11 @@ returns c =
           (appended-join (s .put)
           (appended-join (c .before .before .before .before .before .before .put2 .ensures)
           (appended-join (same-put (a .put) (field-one (a .field) (f .field)))
-          (appended-join (l .put) (c .put-byte .ensures)))))) .appended,
+          (appended-join (l .put) (c .put-byte .ensures)))))),
     )
 
-pub spans-spec : {M : Type 1} → statement M
-spans-spec =
+pub put-spans-spec : {M : Type 1} → statement M
+put-spans-spec =
     tie.close
     (tie.spec
     slice-aggregate-put

@@ -1,0 +1,2 @@
+-- Laws of the lines that answer a pattern.
+mod Cutting

@@ -1,0 +1,22 @@
+-- What is printed for a witness, whatever it is.
+-- Assumes nothing.
+use mathlib.Core.Path.{_≡_}
+use Prim.Native.Nat.{ℕ}
+use mathlib.Core.List.{List}
+use Rattle.theory.specs.Spans.{greedy, posix}
+use Rattle.grammar.specs.Grammar.{Alternation}
+use Rattle.grammar.specs.Limits.{Reads}
+use Rattle.grammar.specs.WriteOut.{writeOut}
+use Rattle.printing.specs.Text.{Printed, UnlikeLine}
+use Rattle.checker.specs.declared.Verdict.{Verdict}
+use Rattle.checker.specs.Verdicts.{Checks}
+use Rattle.answers.specs.Line.{CutLine, SpansLineOf}
+
+-- The line w with both spans; or without, and then the pattern, if it is one, does not cut w differently.
+pub data Shown (p : List ℕ) (n : ℕ) (w text : List ℕ) : Type 0 where
+  cut : CutLine p n w text → Shown p n w text
+  uncut : ((a : Alternation) → Reads p a → greedy (writeOut a) w ≡ posix (writeOut a) w) → UnlikeLine n w text → Shown p n w text
+
+-- For the verdict on the pattern.
+abbrev pub Explained : List ℕ → Verdict → List ℕ → List ℕ → ℕ → List ℕ → ℕ → Type 0
+Explained p x v old n new m = (t u t′ : List ℕ) → Checks p t u x t′ v → Printed (SpansLineOf p x v) old n new m

@@ -1,0 +1,21 @@
+// Reads patterns from standard input, one a line, and prints the checker's verdict on each as `check_patterns` does; an unlike line also has both spans of the
+// witness: 'unlike 4 6162 greedy 0 1 posix 0 2'.
+use lines::KEPT;
+use lines::SIZE;
+
+fn main() {
+    let mut chunk = [0u8; SIZE];
+    let mut line = [0u8; KEPT];
+    let mut out = [0u8; SIZE];
+    let mut table = [0u8; answers::TABLE];
+    let mut witness = [0u8; answers::WITNESS];
+    let used = answers::serve(
+        &mut chunk,
+        &mut line,
+        &mut out,
+        &mut table,
+        &mut witness,
+        true,
+    );
+    lines::write(&out, used);
+}

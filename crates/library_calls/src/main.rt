@@ -1,0 +1,195 @@
+// Calls the checker as a library, a call a line: 'PATTERN TABLE WITNESS', that is the pattern in hex ('-' if it is empty) and how many bytes of table and witness
+// buffer are lent. Before each call every byte of both arrays is set, also beyond what is lent. Prints the verdict's line, then what the lent table and the lent
+// witness buffer hold, in hex, a line each, and 'kept' if no byte beyond them has changed, else 'touched'. A field that is no number counts as 0.
+ghost use Prim.Native.Nat.{_≤_, _<_};
+ghost use lib.ListN.{length};
+use checker::Verdict;
+use lines::KEPT;
+use lines::Output;
+use lines::SIZE;
+
+// How many bytes can be lent, and how many a pattern can have.
+const TABLE: usize = 8192;
+
+const WITNESS: usize = 1024;
+
+const PATTERN: usize = 512;
+
+// What every byte is before a call.
+const TABLE_BYTE: u8 = 170;
+
+const WITNESS_BYTE: u8 = 187;
+
+// No call prints more than this: 2,200 bytes for the verdict, both arrays in hex with their newlines, and 'touched'.
+const LONGEST: usize = 21000;
+
+// The value of a hex digit, 0 for any other byte.
+fn value(b: u8) -> u8
+    ensures { λ r. ⌜ r < 16 ⌝ }
+{
+    match b {
+        48..=57 => b - 48,
+        97..=102 => b - 87,
+        _ => 0,
+    }
+}
+
+// The first space from the place `at` on, or the end.
+fn space_from(s: &[u8], at: usize) -> usize
+    ensures { λ r. ⌜ r ≤ length (now (s .entry)) ⌝ }
+{
+    let mut i = 0;
+    while i < s.len() {
+        if at <= i && s[i] == b' ' {
+            return i;
+        }
+        i += 1;
+    }
+    i
+}
+
+// The decimal number between two places, at most `most`. A space counts as a digit 0.
+fn number(s: &[u8], from: usize, to: usize, most: usize) -> usize
+    requires { ⌜ most ≤ 8192 ⌝ }
+    ensures { λ r. ⌜ r ≤ most ⌝ }
+{
+    let digits = lines::first_of(s, to);
+    let mut n = 0;
+    let mut i = from;
+    while i < digits.len() {
+        n = least(10 * n + value(digits[i]) as usize, most);
+        i += 1;
+    }
+    n
+}
+
+fn least(a: usize, b: usize) -> usize
+    ensures { λ r. ⌜ r ≤ b ⌝ }
+{
+    if a < b { a } else { b }
+}
+
+// Two hex digits.
+fn pair(high: u8, low: u8) -> u8 {
+    value(high) * 16 + value(low)
+}
+
+// The pattern before the place `to`, in hex: how many bytes it has.
+fn unhex(s: &[u8], to: usize, pattern: &mut [u8; PATTERN]) -> usize {
+    let digits = lines::first_of(s, to);
+    let mut n = 0;
+    let mut i = 1;
+    while i < digits.len() && n < PATTERN {
+        pattern[n] = pair(digits[i - 1], digits[i]);
+        n += 1;
+        i += 2;
+    }
+    n
+}
+
+fn fill(s: &mut [u8], b: u8) {
+    let mut i = 0;
+    while i < s.len() {
+        s[i] = b;
+        i += 1;
+    }
+}
+
+// Whether every byte from the place `from` on is b.
+fn only(s: &[u8], from: usize, b: u8) -> bool {
+    let mut i = from;
+    while i < s.len() {
+        if s[i] != b {
+            return false;
+        }
+        i += 1;
+    }
+    true
+}
+
+// Calls the checker with the first p bytes as the pattern: the first t bytes of the table and the first w of the witness buffer are lent.
+fn lend(
+    pattern: &[u8; PATTERN],
+    p: usize,
+    table: &mut [u8],
+    t: usize,
+    witness: &mut [u8],
+    w: usize,
+) -> Verdict
+    requires { ⌜ (t ≤ length (now table)) × (w ≤ length (now witness)) ⌝ }
+{
+    checker::check(
+        lines::first_of(pattern, p),
+        &mut table[..t],
+        &mut witness[..w],
+    )
+}
+
+// What the arrays hold after a call.
+fn report(
+    out: &mut [u8; SIZE],
+    n: usize,
+    table: &[u8; TABLE],
+    witness: &[u8; WITNESS],
+    t: usize,
+    w: usize,
+) -> usize {
+    let rows = printing::bytes(out, n, lines::first_of(table, t));
+    let line = printing::bytes(out, rows, lines::first_of(witness, w));
+    if only(table, t, TABLE_BYTE) && only(witness, w, WITNESS_BYTE) {
+        return printing::text(out, line, b"kept");
+    }
+    printing::text(out, line, b"touched")
+}
+
+// One call, and what it did.
+fn call(
+    out: &mut [u8; SIZE],
+    n: usize,
+    line: &[u8],
+    table: &mut [u8; TABLE],
+    witness: &mut [u8; WITNESS],
+) -> usize {
+    let mut pattern = [0u8; PATTERN];
+    let first = space_from(line, 0);
+    let second = space_from(line, first + 1);
+    let p = unhex(line, first, &mut pattern);
+    let t = number(line, first, second, TABLE);
+    let w = number(line, second, line.len(), WITNESS);
+    fill(table, TABLE_BYTE);
+    fill(witness, WITNESS_BYTE);
+    let x = lend(&pattern, p, table, t, witness, w);
+    let m = answers::verdict(out, n, x, witness);
+    report(out, m, table, witness, t, w)
+}
+
+// Serves calls until the input is over or a write fails, and says how many bytes wait.
+fn serve(chunk: &mut [u8; SIZE], line: &mut [u8; KEPT], out: &mut [u8; SIZE]) -> usize {
+    let mut table = [0u8; TABLE];
+    let mut witness = [0u8; WITNESS];
+    let mut input = lines::fresh(0, 0);
+    let mut output = Output {
+        used: 0,
+        open: true,
+    };
+    let mut turns = u64::MAX;
+    while turns > 0 && output.open {
+        input = lines::next_line(chunk, line, input);
+        if !input.begun {
+            return output.used;
+        }
+        let text = lines::first_of(line, input.n);
+        let used = call(out, output.used, text, &mut table, &mut witness);
+        output = lines::make_room(out, used, LONGEST);
+        turns -= 1;
+    }
+    output.used
+}
+
+fn main() {
+    let mut chunk = [0u8; SIZE];
+    let mut line = [0u8; KEPT];
+    let mut out = [0u8; SIZE];
+    let used = serve(&mut chunk, &mut line, &mut out);
+    lines::write(&out, used);
+}

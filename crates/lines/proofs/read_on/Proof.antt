@@ -1,0 +1,75 @@
+-- `lines::read_on` meets its contract. The invariant: what is kept, with what is left of the line, is the line. The measure is the bytes of the chunk that are left.
+-- Assumes nothing.
+use mathlib.Core.Path.{_≡_, refl, sym, ap, _∙_}
+use native.Mathlib.Omega.{arith}
+use borrow.Author.Needs.{needs}
+use Prim.Native.Nat.{_-_, _<_}
+use lib.ListN.{length, take, getD}
+use Rattle.lines.proofs.Reading.{Left, left-more, left-newline, left-end}
+use Rattle.lines.proofs.read_on.Statement.{statement}
+use Rattle.lines.proofs.read_on.Tie as tie
+
+abbrev Inv-loop : tie.InvT-loop
+Inv-loop chunk line₀ end bytes at₀ n₀ line at n = Left (take end chunk) line₀ at₀ n₀ line at n
+
+abbrev μ-loop : tie.MeasureT-loop
+μ-loop chunk line₀ end bytes at₀ n₀ line at n = length bytes - at
+
+first-of-requires : tie.Need-first-of-requires Inv-loop μ-loop
+first-of-requires c κs = search needs
+
+loop-holds : tie.Need-loop-holds Inv-loop μ-loop
+loop-holds c = record { most = search needs; bytes = refl; at = refl; whole = refl }
+
+shared-slice-read-b : tie.Need-shared-slice-read-b Inv-loop μ-loop
+shared-slice-read-b c = search needs
+
+add-at : tie.Need-add-at Inv-loop μ-loop
+add-at c = search needs
+
+returns : tie.Need-returns Inv-loop μ-loop
+returns c =
+    let a = c .before .before .before .before .before .before .args in
+    let l = c .before .before .before .loop in
+    let e = c .before .before .before .before .first-of .ensures in
+    let h : l .at < length (take (a .input .end) (a .chunk .now)) = omega (arith, ap length e) in
+    left-newline (a .chunk .now) (a .line .now) (a .input) (l .line) (l .at) (l .n) (l .inv) h (sym (ap (λ s. getD s (l .at) 0) e) ∙ c .if1 .taken)
+
+keep-requires : tie.Need-keep-requires Inv-loop μ-loop
+keep-requires c κs = search needs
+
+loop-less : tie.Need-loop-less Inv-loop μ-loop
+loop-less c = search needs
+
+loop-again : tie.Need-loop-again Inv-loop μ-loop
+loop-again c =
+    let a = c .before .before .before .before .before .before .before .before .args in
+    let l = c .before .before .before .before .before .loop in
+    let e = c .before .before .before .before .before .before .first-of .ensures in
+    let h : l .at < length (take (a .input .end) (a .chunk .now)) = omega (arith, ap length e) in
+    let b = ap (λ s. getD s (l .at) 0) e in
+    left-more (a .chunk .now) (a .line .now) (a .input) (l .line) (l .at) (l .n) (l .inv) (c .keep .last .0) (c .keep .result) h
+    (λ q. c .before .before .if1 .left (b ∙ q)) (rw b at (c .keep .ensures))
+
+returns-2 : tie.Need-returns-2 Inv-loop μ-loop
+returns-2 c =
+    let a = c .before .before .before .before .args in
+    let l = c .before .loop in
+    let e = c .before .before .first-of .ensures in
+    left-end (a .chunk .now) (a .line .now) (a .input) (l .line) (l .at) (l .n) (l .inv) (omega (arith, ap length e))
+
+pub read-on-spec : {M : Type 1} → statement M
+read-on-spec =
+    tie.close
+    (tie.spec
+    Inv-loop
+    μ-loop
+    first-of-requires
+    loop-holds
+    shared-slice-read-b
+    add-at
+    returns
+    keep-requires
+    loop-less
+    loop-again
+    returns-2)

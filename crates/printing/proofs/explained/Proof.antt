@@ -1,0 +1,29 @@
+-- `printing::explained` meets its contract: the verdict, a space and the spans, one after the other.
+-- Assumes nothing.
+use mathlib.Core.Path.{refl}
+use borrow.Author.Needs.{needs}
+use Rattle.printing.proofs.Laws.{appended-join}
+use Rattle.printing.proofs.explained.Statement.{statement}
+use Rattle.printing.proofs.explained.Tie as tie
+
+put-unlike-requires : tie.Need-put-unlike-requires
+put-unlike-requires c κs = search needs
+
+put-byte-requires : tie.Need-put-byte-requires
+put-byte-requires c κs = search needs
+
+put-spans-requires : tie.Need-put-spans-requires
+put-spans-requires c κs = search needs
+
+returns : tie.Need-returns
+returns c =
+    let v = c .before .before .before .before .put-unlike .ensures in
+    let s = c .put-spans .ensures in (
+      _,
+      record { verdict = v .0; spans = s .0; is = v .1; cut = s .1; text = refl },
+      appended-join (v .2) (appended-join (c .before .before .put-byte .ensures) (s .2)) .appended,
+    )
+
+pub explained-spec : {M : Type 1} → statement M
+explained-spec =
+    tie.close (tie.spec put-unlike-requires put-byte-requires put-spans-requires returns)

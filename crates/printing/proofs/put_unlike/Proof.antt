@@ -1,0 +1,46 @@
+-- `printing::put_unlike` meets its contract: each step appends its part of the line.
+-- Assumes nothing.
+use Rattle.printing.proofs.Laws.{appended-join}
+use mathlib.Core.List.{[], _∷_, _++_, append-assoc}
+use lib.ListN.{take}
+use Rattle.printing.specs.Text.{hex}
+use borrow.Author.Needs.{needs}
+use Rattle.printing.proofs.put_unlike.Statement.{statement}
+use Rattle.printing.proofs.put_unlike.Tie as tie
+
+slice-aggregate-put : tie.Need-slice-aggregate-put
+slice-aggregate-put c = search needs
+
+put-requires : tie.Need-put-requires
+put-requires c κs = search needs
+
+put-field-requires : tie.Need-put-field-requires
+put-field-requires c κs = search needs
+
+put-byte-requires : tie.Need-put-byte-requires
+put-byte-requires c κs = search needs
+
+put-hex-requires : tie.Need-put-hex-requires
+put-hex-requires c κs = search needs
+
+returns : tie.Need-returns
+returns c =
+    let a = c .before .before .before .before .before .before .before .before .before .before .args in
+    let f = c .before .before .before .before .put-field .ensures in (
+      (117 ∷ 110 ∷ 108 ∷ 105 ∷ 107 ∷ 101 ∷ []) ++ (f .text ++ (32 ∷ hex (take (a .length) (a .witness .now)))),
+      record { field = f .text; is = f .field; text = simp append-assoc },
+      appended-join (c .before .before .before .before .before .before .put .ensures)
+          (appended-join (f .put)
+          (appended-join (c .before .before .put-byte .ensures) (c .put-hex .ensures))),
+    )
+
+pub put-unlike-spec : {M : Type 1} → statement M
+put-unlike-spec =
+    tie.close
+    (tie.spec
+    slice-aggregate-put
+    put-requires
+    put-field-requires
+    put-byte-requires
+    put-hex-requires
+    returns)
