@@ -1,0 +1,99 @@
+"""Writes the input and expected output of the programs `check_patterns`, `explain_patterns` and `library_calls`.
+
+Expected results are those of standings.py, which takes some minutes for the longest witnesses. Run from the repository:
+python3 tests/reference/program_cases.py"""
+import sys
+from paper01 import read
+from standings import check, numbered, spans
+
+sys.setrecursionlimit(100000)
+
+
+def nest(n, rest=''):
+    return 'a?' + rest if n == 0 else '(' + nest(n - 1, ')?' + rest)
+
+
+def deep(n, rest=''):
+    return 'a{0,63}' + rest if n == 0 else 'a{0,63}(' + deep(n - 1, '){0}' + rest)
+
+
+def lines_of(patterns):
+    """One pattern a line; the last newline is left out."""
+    return b'\n'.join(patterns)
+
+
+def write(program, text, expected):
+    with open('crates/%s/stdin' % program, 'wb') as out:
+        out.write(text)
+    with open('crates/%s/stdout' % program, 'w') as out:
+        out.writelines(line + '\n' for line in expected)
+    print(program, len(expected), 'lines')
+
+
+def encoded(*patterns):
+    return [p if isinstance(p, bytes) else p.encode('latin-1') for p in patterns]
+
+
+# Paper 01, 'Reference lines', and the three of 'The programs'.
+REFERENCE = encoded('a|ab', '(a|ab)*', 'a*(b|abc)', 'ab|a', 'a*', 'b*', 'a', 'a{2,3}', '(|a)*', '()', 'a**', 'a{2,1}', 'a{63}b', 'a{63}bc', '(' * 17, 'a(')
+
+CHECKED = REFERENCE + encoded(
+    # the empty pattern, a blank line
+    '',
+    # refusal 1: one byte too many, a line that is not kept whole, a line longer than a chunk of the input
+    'a' * 256, '(' * 1100, 'a' * 66000,
+    # 2 to 8
+    ')', 'a]', '}', '^a', '(|+)', 'a{2}{3}', '\\', 'ab\\n', '[', '[]', '[z-a]', '[[:digit]]', 'a{', 'a{,3}', 'a{64}', '((a)', '(' * 16 + 'a' + ')' * 15 + '(', '(a{33}){2}', '(a{63}bc){0}',
+    # the limits: 255 bytes, depth 16, weight 64
+    '[' + 'a' * 253 + ']', '(' * 16 + 'a|ab' + ')' * 16, '(a|ab){21}c', '(' * 16 + 'a' + ')*' * 16, deep(16), '(' + nest(15, '){0,63}' + nest(16)),
+    # the same wanted leaves in another order are another standing
+    '(a?a)*', '(|a*)b',
+    # the POSIX set goes on after the first end; leftmost before longest
+    '(|a)', 'a|ab|abc|abcd', '(a|b|bc)*d?', 'x*', '(|a|ab)(c|bcd)?', '(a*)(ab)*(b*)', '(a|ab)(bc|c)?', 'a{0,2}ab?',
+    # 1,024 records, and one too many; more than 1,024 standings
+    '((a{3})*|(a{4})*|(a{5})*|(a{17})*)b{3}', '((a{3})*|(a{4})*|(a{5})*|(a{17})*)b{4}', '(.|a.{9})*', '.*a.{9}', '(.|a.{10})*', '(.|a.{20})*',
+    # long witnesses, of 506 and of 992 bytes
+    'x((|(a{7})*a{1,6}|(a{8})*a{1,7}|(a{9})*a{1,8})y)?|xa*y', 'x((|(a{9})*a{1,8}|(a{10})*a{1,9}|(a{11})*a{1,10})y)?|xa*y',
+    # any bytes: above 127, NUL, CR, tab
+    b'\xe9|\xe9\xff', b'[\x80-\xff]|\xff\xff', b'\x00*', b'\x00|\x00\x00', b'[^\x00]?|\x01\x00', b'a\r', b'\r|\r\r', b'\t|\tx', b'\x80{2,1}',
+    # and the last newline left out
+    'a(|b)')
+
+EXPLAINED = REFERENCE + encoded('', 'b(|a)', 'x?(|y)', '(|a|ab)(c|bcd)?', 'a|ab|abc', '[ab](|[bc]+)', 'a{0,2}ab?', b'\xff(|\x00)', '(.|a.{10})*', 'a' * 256, '(a|ab)(bc|c)?')
+
+# Every refusal, both verdicts, with every kind of buffer.
+LENGTHS = [(t, w) for t in (0, 1, 63, 64, 65, 127, 128, 255, 256, 257) for w in (0, 1, 2, 3)]
+CALLS = [(p, t, w) for p in encoded('a|ab', '(a|ab)*', 'a*', '()', 'a(') for t, w in LENGTHS]
+CALLS += [(p, t, w) for p in encoded('', 'a' * 256, 'a**', '\\', '[z-a]', 'a{2,1}', '((', '(' * 17, 'a{63}bc') for t, w in ((0, 0), (1, 1), (64, 0), (130, 2))]
+CALLS += [(p, t, w) for p in encoded('a|ab', 'a{63}', '(a?a)*', '[a-c]|b\xff', 'a(|bcdefg)') for t, w in ((639, 6), (640, 7), (641, 8), (8192, 1024))]
+
+
+def shown(pattern):
+    return check(pattern, bytes(65536), bytes(1024))[0]
+
+
+def explained(pattern):
+    line = shown(pattern)
+    if not line.startswith('unlike'):
+        return line
+    start, short, long = spans(numbered(read(pattern)[1])[0], bytes.fromhex(line.split()[2]))
+    return '%s greedy %d %d posix %d %d' % (line, start, short, start, long)
+
+
+def called(pattern, t, w):
+    line, table, witness = check(pattern, b'\xaa' * t, b'\xbb' * w)
+    return [line, table.hex(), witness.hex(), 'kept']
+
+
+def given():
+    for row in open('tests/reference/library_calls.tsv'):
+        if not row.startswith('#'):
+            p, t, w = row.split()
+            yield (b'' if p == '-' else bytes.fromhex(p)), int(t), int(w)
+
+
+if __name__ == '__main__':
+    calls = list(given()) + CALLS
+    write('library_calls', b''.join(b'%s %d %d\n' % ((p.hex() or '-').encode(), t, w) for p, t, w in calls), [x for c in calls for x in called(*c)])
+    write('explain_patterns', lines_of(EXPLAINED), [explained(p) for p in EXPLAINED])
+    write('check_patterns', lines_of(CHECKED), [shown(p) for p in CHECKED])

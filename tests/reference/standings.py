@@ -1,0 +1,125 @@
+"""A slow, obvious reading of paper 01's outcomes, spans, standings, records and refusals 10 and 11, apart from the product. The reader is paper01.py's.
+
+check(pattern, table, witness) -> (line that the checker program prints, table afterwards, witness buffer afterwards)."""
+from paper01 import leaves, read
+
+
+def numbered(r, n=0):
+    """The written-out pattern with its leaves numbered from 0, left to right: a leaf becomes ('leaf', set, number)."""
+    if r[0] == 'leaf':
+        return ('leaf', r[1], n), n + 1
+    parts = []
+    for x in r[1:]:
+        x, n = numbered(x, n)
+        parts.append(x)
+    return (r[0], *parts), n
+
+
+def outcomes(r, line):
+    """The list of outcomes from each place, as a function of part and place. A later appearance of an outcome says nothing new, so it is left out."""
+    known = {}
+
+    def first_ones(items):
+        return list(dict.fromkeys(items))
+
+    def after(r, items):
+        return [o for x in items for o in (of(r, x[1]) if x[0] == 'ends' else [x])]
+
+    def of(r, i):
+        key = (id(r), i)
+        if key not in known:
+            known[key] = first_ones(list_of(r, i))
+        return known[key]
+
+    def list_of(r, i):
+        if r[0] == 'empty':
+            return [('ends', i)]
+        if r[0] == 'leaf':
+            if i == len(line):
+                return [('wants', r[2])]
+            return [('ends', i + 1)] if line[i] in r[1] else []
+        if r[0] == 'seq':
+            return after(r[2], of(r[1], i))
+        if r[0] == 'alt':
+            return of(r[1], i) + of(r[2], i)
+        turns = [x for x in of(r[1], i) if x != ('ends', i)]
+        return after(r, turns) + [('ends', i)]
+
+    return lambda i: of(r, i)
+
+
+def spans(r, line):
+    """(start, greedy end, POSIX end) at the leftmost start, or None."""
+    of = outcomes(r, line)
+    for i in range(len(line) + 1):
+        ends = [x[1] for x in of(i) if x[0] == 'ends']
+        if ends:
+            return i, ends[0], max(ends)
+    return None
+
+
+def standing(r, line):
+    """(a), (b), (c), (d)."""
+    items = outcomes(r, line)(0)
+    ends = [k for k, x in enumerate(items) if x[0] == 'ends']
+    before = items[:ends[0]] if ends else items
+    return (tuple(x[1] for x in before if x[0] == 'wants'), bool(ends) and items[ends[0]][1] == len(line),
+            frozenset(x[1] for x in items if x[0] == 'wants'), any(items[k][1] == len(line) for k in ends))
+
+
+def is_witness(s):
+    return s[3] and not s[1]
+
+
+def lowest_bytes(r):
+    """The lowest byte of each group: a higher one leads to a standing that is known by then."""
+    sets = leaves(r)
+    seen = {}
+    for b in range(256):
+        seen.setdefault(tuple(b in s for s in sets), b)
+    return sorted(seen.values())
+
+
+def records(r, slots):
+    """The records in order, each (line, standing, origin, byte), up to the first witness's; more than `slots` are not looked for."""
+    whole, _ = numbered(r)
+    found = [(b'', standing(whole, b''), 0, 0)]
+    known = {found[0][1]}
+    order = lowest_bytes(r)
+    k = 0
+    while k < len(found) and len(found) <= slots:
+        for b in order:
+            line = found[k][0] + bytes([b])
+            s = standing(whole, line)
+            if s not in known:
+                known.add(s)
+                found.append((line, s, k, b))
+                if is_witness(s) or len(found) > slots:
+                    return found
+        k += 1
+    return found
+
+
+def record_bytes(record):
+    _, (order, first, every, some), origin, byte = record
+    bits = format(len(order), '07b') + '01'[first] + '01'[some] + '0' * 7 + ''.join('01'[p in every] for p in range(64)) + format(origin, '016b') + format(byte, '08b')
+    bits += ''.join(format(p, '06b') for p in order) + '000000' * (64 - len(order)) + '0' * 24
+    return int(bits, 2).to_bytes(64, 'big')
+
+
+def check(pattern, table, witness):
+    answer = read(pattern)
+    if answer[0] == 'refused':
+        return 'refused %d %d' % answer[1:], table, witness
+    slots = min(len(table) // 64, 65535)
+    found = records(answer[1], slots)
+    written = b''.join(record_bytes(x) for x in found[:slots])
+    table = written + table[len(written):]
+    if len(found) > slots:
+        return 'refused 10 0', table, witness
+    line, last = found[-1][:2]
+    if not is_witness(last):
+        return 'alike %d' % len(found), table, witness
+    if len(line) > len(witness):
+        return 'refused 11 0', table, witness
+    return 'unlike %d %s' % (len(found), line.hex()), table, line + witness[len(line):]
