@@ -127,8 +127,8 @@ fn leading_leaves<'a>(leaves: u64, alive: u64, ending: u64, sets: &'a [u64; 65])
     x
 }
 
-// All leading leaves where they are known, else 0: where none is alive, and from the second time on that `alive` is met.
-// The memory has an entry for each leaf, for the last met of the sets with that least leaf: the set, and its leading leaves, which are 0 at the first time.
+// All leading leaves, or 0 where they are not known. They are known where none is alive, and from the second time on that the set `alive` is met.
+// The memory has an entry for each leaf, kept for the last met of the sets whose least leaf it is: the set, and its leading leaves once they are found.
 // So a set that does not come again costs no more than the leaves of one mask.
 fn recall<'a>(
     alive: u64,
@@ -159,7 +159,7 @@ fn recall<'a>(
     values[j]
 }
 
-// The leaves alive before a byte with that mask, if `alive` are alive after it: of all leading leaves, or, where those are not known, of the mask.
+// The leaves alive before a byte with that mask, if `alive` are alive after it: the leading leaves of the mask, looked at one by one only where all leading leaves are not known.
 fn alive_before<'a>(mask: u64, alive: u64, leading: u64, ending: u64, sets: &'a [u64; 65]) -> u64
     ensures { λ r. ⌜ Before mask alive leading ending (now (sets .entry)) r ⌝ }
 {
@@ -169,7 +169,7 @@ fn alive_before<'a>(mask: u64, alive: u64, leading: u64, ending: u64, sets: &'a 
     mask & leading
 }
 
-// Back over the bytes that keep the leaves alive as they are. Where the leading leaves are not known, no byte does.
+// Back over the bytes that keep the leaves alive as they are: of the leading leaves each takes just these. Where those are not known, no byte is passed over.
 fn run_back<'a>(
     line: &'a [u8],
     from: usize,
@@ -295,7 +295,7 @@ fn run_end<'a>(line: &'a [u8], i: usize, all: u64, masks: &'a [u64; 256]) -> usi
     j
 }
 
-// The next place to look at, where the byte at i carries s to t. If that is the same standing, the bytes of the run keep it too.
+// The next place to look at, where the byte at i carries s to t. If that is the same standing, each byte of the run keeps it too: the wanted leaves see no difference.
 fn next_place<'a>(
     leaves: bool,
     s: Standing,
