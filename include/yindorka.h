@@ -3,7 +3,7 @@
  * Every function is proved to meet the promise beside it, for every content of every buffer (crates/yindorka/src/lib.rt has the contracts).
  * No function allocates, keeps a state between calls or writes anywhere but to the buffers named; so each may be called from any number of threads,
  * as long as no two calls share a buffer that one of them writes. No function fails: what is no pattern is refused with a number and a place.
- * A pointer to a buffer of length 0 must not be null. Up to 512 KB of stack are used.
+ * A pointer to a buffer of length 0 must not be null. The stack is not proved; the programs over these functions are tested with 512 KB of it.
  */
 #ifndef YINDORKA_H
 #define YINDORKA_H
