@@ -5,8 +5,7 @@ use Prim.Native.Nat.{ℕ}
 use mathlib.Core.List.{List}
 use native.Mathlib.Omega.{arith}
 use lib.ListN.{take}
-use Rattle.theory.specs.Spans.{Span, nowhere, span, greedy, posix}
-use Rattle.theory.proofs.Demand.{one-start, both-none}
+use Rattle.theory.specs.Spans.{Span, greedy, posix}
 use Rattle.grammar.specs.Grammar.{Alternation}
 use Rattle.grammar.specs.Limits.{Reads}
 use Rattle.grammar.specs.WriteOut.{writeOut}
@@ -19,9 +18,9 @@ use Rattle.verdict.proofs.Checked.{checked-found}
 use Rattle.verdict.proofs.Demand.{unlike-means}
 use Rattle.reader.specs.declared.Answer.{Answer}
 use Rattle.reader.specs.declared.Answer.the-variants.{Accepted, Refused}
-use Rattle.matchers.specs.declared.Span.the-variants.{Nowhere, Located}
 use Rattle.matchers.specs.declared.Spans.{Spans}
-use Rattle.matchers.specs.Cuts.{spanOf}
+use Rattle.matchers.specs.declared.Spans.the-variants.{Nowhere, Located}
+use Rattle.matchers.specs.Cuts.{greedyOf, posixOf}
 use Rattle.readings.specs.declared.Reply.{Reply}
 use Rattle.readings.specs.Replies.{cut, meaning, due, Beside, Replied}
 use Rattle.printing.specs.Text.{ExplainedLine}
@@ -29,49 +28,40 @@ use Rattle.answers.specs.Line.{CutLine}
 use Rattle.answers.specs.Cutting.{Shown}
 use Rattle.answers.specs.Cutting as Shows
 
-told : (x : Answer) (s : Spans) {g q : Span} → meaning x s ≡ cut g q → (spanOf (s .greedy) ≡ g) × (spanOf (s .posix) ≡ q)
+told : (x : Answer) (s : Spans) {g q : Span} → meaning x s ≡ cut g q → (greedyOf s ≡ g) × (posixOf s ≡ q)
 told Accepted s e = (cc, cc)
 told (Refused n k) s e = absurd (let z : _≡_ {A = ℕ} 0 1 = cc in omega arith)
 
 -- Spans that are there are an accepted pattern's.
-accepted-cut : {p : List ℕ} (w : List ℕ) {i j : ℕ} (x : Answer) (s : Spans) (d : Due.Answer) → Right p d → meaning x s ≡ due d w → Beside x s → s .greedy ≡ Located i j
-    → (a : Alternation) × Reads p a × (spanOf (s .greedy) ≡ greedy (writeOut a) w) × (spanOf (s .posix) ≡ posix (writeOut a) w)
+accepted-cut : {p : List ℕ} (w : List ℕ) {i j k : ℕ} (x : Answer) (s : Spans) (d : Due.Answer) → Right p d → meaning x s ≡ due d w → Beside x s → s ≡ Located i j k
+    → (a : Alternation) × Reads p a × (greedyOf s ≡ greedy (writeOut a) w) × (posixOf s ≡ posix (writeOut a) w)
 accepted-cut w x s (Due.accepted a) h e b f = let g = told x s e in (a, h, g .0, g .1)
 accepted-cut w Accepted s (Due.refused n k) h e b f = absurd (let z : _≡_ {A = ℕ} 0 1 = cc in omega arith)
-accepted-cut w (Refused m q) s (Due.refused n k) h e b f = let u = ap spanOf f in absurd (let z : _≡_ {A = ℕ} 0 1 = cc (u, b .0) in omega arith)
+accepted-cut w (Refused m q) s (Due.refused n k) h e b f = absurd (let z : _≡_ {A = ℕ} 0 1 = cc in omega arith)
 
-module _ {p w : List ℕ} (r : Reply) (h : Replied p w r) where
+module _ {p w : List ℕ} {r : Reply} (h : Replied p w r) where
   -- The spans are those of the pattern, if it is one.
-  spans-of : (a : Alternation) → Reads p a → (spanOf (r .spans .greedy) ≡ greedy (writeOut a) w) × (spanOf (r .spans .posix) ≡ posix (writeOut a) w)
+  spans-of : (a : Alternation) → Reads p a → (greedyOf (r .spans) ≡ greedy (writeOut a) w) × (posixOf (r .spans) ≡ posix (writeOut a) w)
   spans-of a i =
       let e : h .answer ≡ Due.accepted a = sym (right-unique p (h .answer) (h .right)) ∙ right-unique p (Due.accepted a) i in
       told (r .answer) (r .spans) (h .means ∙ ap (λ d. due d w) e)
 
-  -- Where one span is missing, so is the other.
-  pub no-greedy : r .spans .greedy ≡ Nowhere → (a : Alternation) → Reads p a → greedy (writeOut a) w ≡ posix (writeOut a) w
-  no-greedy e a i =
-      let g = sym (spans-of a i .0) ∙ ap spanOf e in
-      g ∙ sym (both-none (writeOut a) w .0 g)
+  -- Neither is there,
+  pub no-spans : r .spans ≡ Nowhere → (a : Alternation) → Reads p a → greedy (writeOut a) w ≡ posix (writeOut a) w
+  no-spans e a i = let (g, q) = spans-of a i in sym g ∙ ap greedyOf e ∙ sym (ap posixOf e) ∙ q
 
-  pub no-posix : r .spans .posix ≡ Nowhere → (a : Alternation) → Reads p a → greedy (writeOut a) w ≡ posix (writeOut a) w
-  no-posix e a i =
-      let g = sym (spans-of a i .1) ∙ ap spanOf e in
-      both-none (writeOut a) w .1 g ∙ sym g
-
-  -- Both begin at one start.
-  pub both-spans : {i j m k n : ℕ} {text : List ℕ} → r .spans .greedy ≡ Located i j → r .spans .posix ≡ Located m k → ExplainedLine n w i j k text → CutLine p n w text
-  both-spans {i} {j} {m} {k} e f l =
+  -- or both, from one start.
+  pub both-spans : {i j k n : ℕ} {text : List ℕ} → r .spans ≡ Located i j k → ExplainedLine n w i j k text → CutLine p n w text
+  both-spans {i} {j} {k} e l =
       let (a, reads, g, q) = accepted-cut w (r .answer) (r .spans) (h .answer) (h .right) (h .means) (h .beside) e in
-      let short : greedy (writeOut a) w ≡ span i j = sym g ∙ ap spanOf e in
-      let long : posix (writeOut a) w ≡ span m k = sym q ∙ ap spanOf f in
       record {
         tree = a;
         reads = reads;
         start = i;
         short = j;
         long = k;
-        greedily = short;
-        longest = subst (λ x. posix (writeOut a) w ≡ span x k) (sym (one-start (writeOut a) w short long)) long;
+        greedily = sym g ∙ ap greedyOf e;
+        longest = sym q ∙ ap posixOf e;
         line = l;
       }
 

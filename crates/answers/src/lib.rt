@@ -10,7 +10,7 @@ use checker::Verdict;
 use lines::KEPT;
 use lines::Output;
 use lines::SIZE;
-use matchers::Span;
+use matchers::Spans;
 
 // What is lent to the checker for each pattern: 1,024 slots, and a witness buffer. Each byte of a witness leads to a further record, so no witness within
 // 1,024 records is longer than the buffer.
@@ -45,19 +45,15 @@ fn cut_witness<'a>(
 {
     let reply = readings::cut_line(pattern, lines::first_of(witness, length));
     let spans = reply.spans;
-    let greedy = spans.greedy;
-    let posix = spans.posix;
-    let Span::Located { start, end: short } = greedy else {
-        return printing::unlike(out, n, count, length, witness);
-    };
-    let Span::Located {
-        start: _,
-        end: long,
-    } = posix
+    let Spans::Located {
+        start,
+        greedy,
+        posix,
+    } = spans
     else {
         return printing::unlike(out, n, count, length, witness);
     };
-    printing::explained(out, n, count, length, witness, start, short, long)
+    printing::explained(out, n, count, length, witness, start, greedy, posix)
 }
 
 // Appends the verdict's line, with both spans of the witness where there is one.

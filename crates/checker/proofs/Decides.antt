@@ -25,7 +25,7 @@ use Rattle.reader.specs.declared.Answer.the-variants as Answer
 use Rattle.reader.specs.declared.Reading.{Reading}
 use Rattle.reader.specs.Reading.{ReadRight}
 use Rattle.reader.proofs.Laws.{accepted-reads, accepted-leaves, accepted-holds, refused-fault}
-use Rattle.standing.specs.Stands.{Lent}
+use Rattle.standing.specs.Stands.{Arrays, arrays, Lent}
 use Rattle.standing.proofs.Lent.{lent}
 use Rattle.search.specs.declared.Progress.{Progress}
 use Rattle.search.specs.declared.Progress.the-variants.{Clear, Witness, Full}
@@ -33,11 +33,12 @@ use Rattle.search.specs.Ends.{AllFound, WitnessFound, SlotsFull, Reached, Searc
 use Rattle.checker.specs.declared.Verdict.{Verdict}
 use Rattle.checker.specs.declared.Verdict.the-variants.{Alike, Refused}
 use Rattle.checker.specs.Origins.{Line, Lined}
-use Rattle.checker.specs.Verdicts.{resultOf, Checks, Sound, Handed, given, too-long, Decides}
+use Rattle.checker.specs.Verdicts.{resultOf, Checks}
+use Rattle.checker.specs.Steps.{Sound, Handed, given, too-long, Decides}
 use Rattle.checker.proofs.Origins.{line-one, record-line}
 
 -- The witness's record has its line.
-module _ (r : Re) (d : Numbered 0 r) {t₀ : List ℕ} {n : ℕ} {t : List ℕ} (x : WitnessFound r d t₀ n t) where
+module _ {r : Re} (d : Numbered 0 r) {t₀ : List ℕ} {n : ℕ} {t : List ℕ} (x : WitnessFound r t₀ n t) where
   last-place : n - 1 ≡ length (x .lines)
   last-place = omega (arith, x .size)
 
@@ -65,38 +66,40 @@ module _ {p : List ℕ} {a : Alternation} (reads : Reads p a) (d : Numbered 0 (w
   found-full x = no-slot reads (x .full) (x .size) refl (x .holds .table) refl
 
   -- A witness: unlike, or 11.
-  pub found-witness : {n : ℕ} {y : Verdict} {v′ : List ℕ} → WitnessFound (writeOut a) d t n t′ → Handed t′ n v y v′ → Found p t v (resultOf y) t′ v′
+  pub found-witness : {n : ℕ} {y : Verdict} {v′ : List ℕ} → WitnessFound (writeOut a) t n t′ → Handed t′ n v y v′ → Found p t v (resultOf y) t′ v′
   found-witness {n} x (given {w = w} l h) =
-      let e : w ≡ x .line = line-one l (last-line (writeOut a) d x) in
-      first-witness reads (first (writeOut a) d x) (few (writeOut a) d x) (subst (λ u. length u ≤ length v) e h) (ap₂ unlike (sym (x .size)) (ap length e)) (x .holds .table) (ap (onto v) e)
+      let e : w ≡ x .line = line-one l (last-line d x) in
+      first-witness reads (first d x) (few d x) (subst (λ u. length u ≤ length v) e h) (ap₂ unlike (sym (x .size)) (ap length e)) (x .holds .table) (ap (onto v) e)
   found-witness {n} x (too-long {w = w} l h) =
-      let e : w ≡ x .line = line-one l (last-line (writeOut a) d x) in
-      no-room reads (first (writeOut a) d x) (few (writeOut a) d x) (subst (λ u. length v < length u) e h) refl (x .holds .table) refl
+      let e : w ≡ x .line = line-one l (last-line d x) in
+      no-room reads (first d x) (few d x) (subst (λ u. length v < length u) e h) refl (x .holds .table) refl
 
 -- Of an accepted pattern's arrays, and what the search found with them.
-module _ (x : Pattern) (tables : Tables) (sound : Sound x) (right : Right (decode x) tables) (t : List ℕ) (p : Progress) (t′ : List ℕ)
-    (searched : Searched (x .masks) (tables .rows) (tables .lens) (tables .sets) (tables .ends) t p t′) where
-  lent-here : Lent (decode x) (x .masks) (tables .rows) (tables .lens) (tables .sets) (tables .ends)
+module _ {x : Pattern} {tables : Tables} (sound : Sound x) (right : Right (decode x) tables) {t : List ℕ} {p : Progress} {t′ : List ℕ}
+    (searched : Searched (arrays (x .masks) (tables .rows) (tables .lens) (tables .sets) (tables .ends)) t p t′) where
+  abbrev lent-arrays : Arrays
+  lent-arrays = arrays (x .masks) (tables .rows) (tables .lens) (tables .sets) (tables .ends)
+
+  lent-here : Lent (decode x) lent-arrays
   lent-here = lent x tables right (sound .numbered) (sound .most) (sound .holds)
 
-  module _ (q : Progress) (e : p ≡ q) where
-    ends : (r : Re) (l : Lent r (x .masks) (tables .rows) (tables .lens) (tables .sets) (tables .ends)) → Reached r (l .numbered) t t′ (λ n. AllFound r t n t′) q
-    ends r l = subst (Reached r (l .numbered) t t′ (λ n. AllFound r t n t′)) e (searched r l)
+  ends : (q : Progress) → p ≡ q → {r : Re} → Lent r lent-arrays → Reached r t t′ (λ n. AllFound r t n t′) q
+  ends q e {r} l = subst (Reached r t t′ (λ n. AllFound r t n t′)) e (searched .ends l)
 
-  lent-as : (a : Alternation) → decode x ≡ writeOut a → Lent (writeOut a) (x .masks) (tables .rows) (tables .lens) (tables .sets) (tables .ends)
-  lent-as a f = subst (λ r. Lent r (x .masks) (tables .rows) (tables .lens) (tables .sets) (tables .ends)) f lent-here
+  lent-as : {r : Re} → decode x ≡ r → Lent r lent-arrays
+  lent-as f = subst (λ y. Lent y lent-arrays) f lent-here
 
   pub decides-alike : {n : ℕ} {v : List ℕ} → p ≡ Clear n → Decides x t v (Alike n) t′ v
-  decides-alike {n} e w a reads f = let l = lent-as a f in found-alike reads (l .numbered) (ends (Clear n) e (writeOut a) l)
+  decides-alike {n} e = record { found = λ reads f. let l = lent-as f in found-alike reads (l .numbered) (ends (Clear n) e l) }
 
   pub decides-full : {v : List ℕ} → p ≡ Full → Decides x t v (Refused 10 0) t′ v
-  decides-full e w a reads f = let l = lent-as a f in found-full reads (l .numbered) (ends Full e (writeOut a) l)
+  decides-full e = record { found = λ reads f. let l = lent-as f in found-full reads (l .numbered) (ends Full e l) }
 
   pub decides-lined : {n : ℕ} → p ≡ Witness n → (0 < n) × Lined t′ (n - 1)
-  decides-lined {n} e = last-lined (decode x) (lent-here .numbered) (ends (Witness n) e (decode x) lent-here)
+  decides-lined {n} e = last-lined (lent-here .numbered) (ends (Witness n) e lent-here)
 
   pub decides-witness : {n : ℕ} {y : Verdict} {v v′ : List ℕ} → p ≡ Witness n → Handed t′ n v y v′ → Decides x t v y t′ v′
-  decides-witness {n} e h w a reads f = let l = lent-as a f in found-witness reads (l .numbered) (ends (Witness n) e (writeOut a) l) h
+  decides-witness {n} e h = record { found = λ reads f. let l = lent-as f in found-witness reads (l .numbered) (ends (Witness n) e l) h }
 
 -- Of the reader's answer.
 module _ {p : List ℕ} {r : Reading} (h : ReadRight p r) where
@@ -104,7 +107,7 @@ module _ {p : List ℕ} {r : Reading} (h : ReadRight p r) where
   accepted-sound e = record { numbered = accepted-leaves h e .0; most = accepted-leaves h e .1; holds = accepted-holds h e }
 
   pub checks-accepted : {t v t′ v′ : List ℕ} (y : Verdict) → r .answer ≡ Accepted → Decides (r .pattern) t v y t′ v′ → Checks p t v y t′ v′
-  checks-accepted {t} {v} {t′} {v′} y e d = let (a, reads, f) = accepted-reads h e in checked-exactly p t v (resultOf y) t′ v′ .1 (d p a reads f)
+  checks-accepted {t} {v} {t′} {v′} y e d = let (a, reads, f) = accepted-reads h e in checked-exactly p t v (resultOf y) t′ v′ .1 (d .found reads f)
 
   pub checks-refused : {t v : List ℕ} {n k : ℕ} → r .answer ≡ Answer.Refused n k → Checks p t v (Refused n k) t v
   checks-refused e = by-reader (refused-fault h e)

@@ -11,19 +11,20 @@ use Rattle.theory.specs.Pattern.{Re, Numbered}
 use Rattle.theory.specs.Standing.{standing}
 use Rattle.theory.specs.Records.{at, Records}
 use Rattle.theory.proofs.Lines.{≺-empty}
-use Rattle.theory.proofs.Records.{Search, search-records}
+use Rattle.theory.specs.Code.Search.{Search}
+use Rattle.theory.proofs.Records.{search-records}
 use Rattle.verdict.specs.Record.{recordBytes}
 use Rattle.verdict.specs.Table.{recordOf, onto}
 use Rattle.verdict.proofs.Tables.{From, nothing, grown, from-where, slot, slots-most, onto-sets}
 use Rattle.verdict.proofs.Origins.{came-from}
 use Rattle.table.specs.Slots.{slotAt, originAt, byteAt}
 use Rattle.table.proofs.Laws.{slot-there, slot-byte, origin-of, byte-of}
-use Rattle.search.specs.Ends.{Holds}
+use Rattle.search.specs.Ends.{HoldsRecords}
 use Rattle.search.proofs.Looks.{slot-inside}
 use Rattle.checker.specs.Origins.{Line, empty, Lined, Length, Fits, Written}
 use Rattle.checker.specs.Origins.{grown as comes}
 use Rattle.checker.specs.declared.Verdict.the-variants.{Unlike, Refused}
-use Rattle.checker.specs.Verdicts.{Handed, given, too-long}
+use Rattle.checker.specs.Steps.{Handed, given, too-long}
 
 -- A record has one line.
 pub line-one : {t : List ℕ} {k : ℕ} {w v : List ℕ} → Line t k w → Line t k v → w ≡ v
@@ -54,7 +55,7 @@ zero-line r {L} a l = go (at L 0) refl (from-where (at L 0))
     go _ e nothing = refl
     go _ e (grown u b) = let (j, h, s) = a .before 0 l [] tt (rw e (≺-empty u b)) in absurd (omega arith)
 
-module _ (r : Re) (d : Numbered 0 r) {t₀ : List ℕ} {L : List (List ℕ)} {t : List ℕ} {q c : ℕ} (h : Holds r t₀ L t) (x : Search r d L q c) where
+module _ (r : Re) (d : Numbered 0 r) {t₀ : List ℕ} {L : List (List ℕ)} {t : List ℕ} {q c : ℕ} (h : HoldsRecords r t₀ L t) (x : Search r L q c) where
   fields : (k : ℕ) → k < length L → (j b : ℕ) → j < 65536 → b < 256 → recordOf r L (at L k) ≡ recordBytes (standing r (at L k)) j b → (originAt t k ≡ j) × (byteAt t k ≡ b)
   fields k l j b hj hb e =
       let is : slotAt t k ≡ recordBytes (standing r (at L k)) j b = ap (λ y. slotAt y k) (h .table) ∙ slot r L t₀ k l ∙ e in

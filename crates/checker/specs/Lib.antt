@@ -2,3 +2,5 @@
 pub mod Verdicts
 -- A line read back along the origin fields.
 pub mod Origins
+-- What its private functions do.
+pub mod Steps

@@ -1,6 +1,7 @@
 // The checker: from a pattern's bytes, a table and a witness buffer of any lengths to a verdict. Paper 01, "Standings and their records" and "Refusals".
 ghost use Prim.Native.Nat.{_-_, _<_};
-ghost use Rattle.checker.specs.Verdicts.{Sound, Handed, Decides, Checks};
+ghost use Rattle.checker.specs.Verdicts.{Checks};
+ghost use Rattle.checker.specs.Steps.{Sound, Handed, Decides};
 ghost use Rattle.checker.specs.Origins.{Lined, Length, Fits, Written};
 use arrays::Pattern;
 use reader::Answer;

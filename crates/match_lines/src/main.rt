@@ -5,7 +5,7 @@ use lines::Input;
 use lines::KEPT;
 use lines::Output;
 use lines::SIZE;
-use matchers::Span;
+use matchers::Spans;
 use reader::Answer;
 
 // No printed line is longer than 'greedy 1024 1024 posix 1024 1024' with its newline.
@@ -23,19 +23,15 @@ fn cut_line<'a>(
     ends: &'a [u8; 65],
 ) -> usize {
     let spans = matchers::cut(line, masks, rows, lens, sets, ends);
-    let greedy = spans.greedy;
-    let posix = spans.posix;
-    let Span::Located { start, end: short } = greedy else {
-        return printing::none(out, used);
-    };
-    let Span::Located {
-        start: _,
-        end: long,
-    } = posix
+    let Spans::Located {
+        start,
+        greedy,
+        posix,
+    } = spans
     else {
         return printing::none(out, used);
     };
-    printing::spans(out, used, start, short, long)
+    printing::spans(out, used, start, greedy, posix)
 }
 
 // Prints the answer to an order line.

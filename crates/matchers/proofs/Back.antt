@@ -26,7 +26,7 @@ use Rattle.theory.proofs.Head.{alive-leaf}
 use Rattle.arrays.specs.Decoded.{hasBit}
 use Rattle.follow.specs.declared.Tables.{Tables}
 use Rattle.follow.specs.Rows.{row, Summed}
-use Rattle.standing.specs.Stands.{Lent}
+use Rattle.standing.specs.Stands.{arrays, Lent}
 use Rattle.matchers.specs.declared.Place.{Place}
 use Rattle.matchers.specs.declared.Place.the-variants.{At}
 use Rattle.matchers.specs.Passes.{placeOf, wantsOf, leadsTo, Covers, Ending, leadsOn, Leading, LeadingIf, Back, Before, Kept, Leftmost, LastStart}
@@ -58,7 +58,7 @@ module _ (t : Tables) (k : ℕ) (summed : Summed t k) (l : List Next) (is : row 
       ap₂ _||_ row-end
       (meets-bits (getD (t .sets) k 0) x (wanted l) set (λ q m. summed .set q m ∙ row-member (suc q) ∙ member-wants q l) h small)
 
-module _ (r : Re) (masks rows lens sets ends : List ℕ) (lent : Lent r masks rows lens sets ends) where
+module _ (r : Re) (masks rows lens sets ends : List ℕ) (lent : Lent r (arrays masks rows lens sets ends)) where
   abbrev tables : Tables
   tables = record { rows = rows; lens = lens; sets = sets; ends = ends }
 
@@ -125,7 +125,7 @@ pub record Behind (r : Re) (w : List ℕ) (leaves i x : ℕ) (best : Option ℕ)
 -- The same for every pattern whose arrays these are, if it does not match the empty line.
 abbrev pub Behinds : List ℕ → List ℕ → List ℕ → ℕ → ℕ → ℕ → ℕ → Option ℕ → Type 0
 Behinds masks sets w leaves ending i x best =
-    (ends : List ℕ) → (getD ends 0 0 ≡ 1 → ⊥) → Covers 65 sets leaves → Ending leaves ends ending → (r : Re) (rows lens : List ℕ) → Lent r masks rows lens sets ends → Below 256 w → Behind r w leaves i x best
+    (ends : List ℕ) → (getD ends 0 0 ≡ 1 → ⊥) → Covers 65 sets leaves → Ending leaves ends ending → (r : Re) (rows lens : List ℕ) → Lent r (arrays masks rows lens sets ends) → Below 256 w → Behind r w leaves i x best
 
 module _ (masks sets w : List ℕ) (leaves ending : ℕ) where
   -- A place where the leaves x are alive is a start.

@@ -20,7 +20,7 @@ use Rattle.theory.proofs.Step.{step}
 use Rattle.theory.proofs.Passes.{greedy-stop, posix-stop}
 use Rattle.arrays.specs.Decoded.{hasBit}
 use Rattle.standing.specs.declared.Standing.{Standing}
-use Rattle.standing.specs.Stands.{means, Lent, Fine, First, Carried}
+use Rattle.standing.specs.Stands.{means, Arrays, Lent, Fine, Stands, First, Carried}
 use Rattle.matchers.specs.declared.Place.{Place}
 use Rattle.matchers.specs.declared.Ends.{Ends}
 use Rattle.matchers.specs.Passes.{placeOf, Passed, Ended}
@@ -59,8 +59,8 @@ pub record Ahead (r : Re) (w : List ℕ) (start i : ℕ) (s : Standing) (greedy 
   pub greedily : forward r (λ s. s .first) (drop i w) (means (count r) s) i greedy ≡ farthest r (λ s. s .first) (drop start w) start
   pub longest : forward r (λ s. s .some) (drop i w) (means (count r) s) i posix ≡ farthest r (λ s. s .some) (drop start w) start
 
-abbrev pub Aheads : List ℕ → List ℕ → List ℕ → List ℕ → List ℕ → List ℕ → ℕ → ℕ → Standing → Place → Place → Type 0
-Aheads masks rows lens sets ends w start i s greedy posix = (r : Re) → Lent r masks rows lens sets ends → Below 256 w → Ahead r w start i s (placeOf greedy) (placeOf posix)
+pub record Aheads (a : Arrays) (w : List ℕ) (start i : ℕ) (s : Standing) (greedy posix : Place) : Type 0 where
+  pub here : {r : Re} → Lent r a → Below 256 w → Ahead r w start i s (placeOf greedy) (placeOf posix)
 
 module _ (r : Re) (w : List ℕ) (start : ℕ) where
   -- One byte more.
@@ -88,64 +88,70 @@ module _ (r : Re) (w : List ℕ) (start : ℕ) where
       later true i o = refl
       later false i o = refl
 
-module _ (masks rows lens sets ends w : List ℕ) (start : ℕ) where
-  pub ahead-start : (s : Standing) (greedy posix : Place) → First masks rows lens sets ends s → placeOf greedy ≡ cond (s .first) (some start) none → placeOf posix ≡ cond (s .some) (some start) none
-      → Aheads masks rows lens sets ends w start start s greedy posix
-  ahead-start s greedy posix first g p r lent below =
-      let (fine, e) = first r lent in
-      record {
-        fine = fine;
-        read = ([], e);
-        greedily = forward-start r (λ s. s .first) w start (means (count r) s) (placeOf greedy) e g;
-        longest = forward-start r (λ s. s .some) w start (means (count r) s) (placeOf posix) e p;
-      }
+module _ {a : Arrays} {w : List ℕ} {start : ℕ} where
+  pub ahead-start : {s : Standing} {greedy posix : Place} → First a s → placeOf greedy ≡ cond (s .first) (some start) none → placeOf posix ≡ cond (s .some) (some start) none
+      → Aheads a w start start s greedy posix
+  ahead-start {s} {greedy} {posix} first g p = record {
+    here = λ {r} lent below.
+        let x = first .stands lent in
+        record {
+          fine = x .fine;
+          read = ([], x .is);
+          greedily = forward-start r (λ s. s .first) w start (means (count r) s) (placeOf greedy) (x .is) g;
+          longest = forward-start r (λ s. s .some) w start (means (count r) s) (placeOf posix) (x .is) p;
+        };
+  }
 
   -- From i to j, where the byte at i carries s to t, and any byte after it that is passed over keeps t.
-  pub ahead-turn : (i j : ℕ) (s t : Standing) (greedy greedy′ posix posix′ : Place) → Passed masks w s t i j → Aheads masks rows lens sets ends w start i s greedy posix
-      → Carried masks rows lens sets ends s (getD w i 0) t → placeOf greedy′ ≡ cond (t .first) (some j) (placeOf greedy) → placeOf posix′ ≡ cond (t .some) (some j) (placeOf posix)
-      → Aheads masks rows lens sets ends w start j t greedy′ posix′
-  ahead-turn i j s t greedy greedy′ posix posix′ passed inv carried g p r lent below = rw (g, p) (subst (λ k. Ahead r w start k t (cond (t .first) (some k) (placeOf greedy)) (cond (t .some) (some k) (placeOf posix))) e there)
-    where
-      before : Ahead r w start i s (placeOf greedy) (placeOf posix)
-      before = inv r lent below
+  module _ {i j : ℕ} {s t : Standing} {greedy posix : Place} (passed : Passed (a .masks) w s t i j) (inv : Aheads a w start i s greedy posix) (carried : Carried a s (getD w i 0) t) where
+    turned : (r : Re) → Lent r a → Below 256 w → Ahead r w start j t (cond (t .first) (some j) (placeOf greedy)) (cond (t .some) (some j) (placeOf posix))
+    turned r lent below = subst (λ k. Ahead r w start k t (cond (t .first) (some k) (placeOf greedy)) (cond (t .some) (some k) (placeOf posix))) e there
+      where
+        before : Ahead r w start i s (placeOf greedy) (placeOf posix)
+        before = inv .here lent below
 
-      fine : Fine r t
-      fine = carried r lent (before .fine) .0
+        after : Stands r t (next r (means (count r) s) (getD w i 0))
+        after = carried .stands lent (record { fine = before .fine; is = refl })
 
-      means-next : means (count r) t ≡ next r (means (count r) s) (getD w i 0)
-      means-next = carried r lent (before .fine) .1
+        e : suc i + (j - suc i) ≡ j
+        e = omega (arith, passed .more)
 
-      e : suc i + (j - suc i) ≡ j
-      e = omega (arith, passed .more)
+        keeps : (k : ℕ) → suc i ≤ k → k < suc i + (j - suc i) → means (count r) t ≡ next r (means (count r) t) (getD w k 0)
+        keeps k h l =
+            let (same, alike) = passed .still k h (omega arith) in
+            let still = same-means (count r) s t same in
+            let (v, line) = before .read in
+            let within = passed .within in
+            after .is ∙ sym (next-alike r (a .masks) (a .rows) (a .lens) (a .sets) (a .ends) lent w below s (before .fine) v line i k (omega arith) (omega arith) alike) ∙ ap (λ u. next r u (getD w k 0)) still
 
-      keeps : (k : ℕ) → suc i ≤ k → k < suc i + (j - suc i) → means (count r) t ≡ next r (means (count r) t) (getD w k 0)
-      keeps k h l =
-          let (same, alike) = passed .still k h (omega arith) in
-          let still = same-means (count r) s t same in
-          let (v, line) = before .read in
-          let within = passed .within in
-          means-next ∙ sym (next-alike r masks rows lens sets ends lent w below s (before .fine) v line i k (omega arith) (omega arith) alike) ∙ ap (λ u. next r u (getD w k 0)) still
+        there : Ahead r w start (suc i + (j - suc i)) t (cond (t .first) (some (suc i + (j - suc i))) (placeOf greedy)) (cond (t .some) (some (suc i + (j - suc i))) (placeOf posix))
+        there =
+            let within = passed .within in
+            ahead-kept r w start (lent .numbered) (j - suc i) (suc i) t (placeOf greedy) (placeOf posix) (omega arith) keeps
+            (ahead-byte r w start (lent .numbered) i s t (placeOf greedy) (placeOf posix) (omega (arith, passed .more)) before (after .fine) (after .is))
 
-      there : Ahead r w start (suc i + (j - suc i)) t (cond (t .first) (some (suc i + (j - suc i))) (placeOf greedy)) (cond (t .some) (some (suc i + (j - suc i))) (placeOf posix))
-      there =
-          let within = passed .within in
-          ahead-kept r w start (lent .numbered) (j - suc i) (suc i) t (placeOf greedy) (placeOf posix) (omega arith) keeps
-          (ahead-byte r w start (lent .numbered) i s t (placeOf greedy) (placeOf posix) (omega (arith, passed .more)) before fine means-next)
+    pub ahead-turn : {greedy′ posix′ : Place} → placeOf greedy′ ≡ cond (t .first) (some j) (placeOf greedy) → placeOf posix′ ≡ cond (t .some) (some j) (placeOf posix)
+        → Aheads a w start j t greedy′ posix′
+    ahead-turn g p = record { here = λ {r} lent below. rw (g, p) (turned r lent below) }
 
-  pub ahead-end : (i : ℕ) (s : Standing) (e : Ends) → length w ≤ i → Aheads masks rows lens sets ends w start i s (e .greedy) (e .posix) → Ended masks rows lens sets ends w start e
-  ahead-end i s e l inv r lent below =
-      let before = inv r lent below in
-      record {
-        greedily = sym (forward-end r (λ s. s .first) w i (means (count r) s) (placeOf (e .greedy)) l) ∙ before .greedily;
-        longest = sym (forward-end r (λ s. s .some) w i (means (count r) s) (placeOf (e .posix)) l) ∙ before .longest;
-      }
+  pub ahead-end : {i : ℕ} {s : Standing} (e : Ends) → length w ≤ i → Aheads a w start i s (e .greedy) (e .posix) → Ended a w start e
+  ahead-end {i} {s} e l inv = record {
+    last = λ {r} lent below.
+        let before = inv .here lent below in
+        record {
+          greedily = sym (forward-end r (λ s. s .first) w i (means (count r) s) (placeOf (e .greedy)) l) ∙ before .greedily;
+          longest = sym (forward-end r (λ s. s .some) w i (means (count r) s) (placeOf (e .posix)) l) ∙ before .longest;
+        };
+  }
 
   -- Where no leaf is wanted any more, nothing is left to do.
-  pub ahead-over : (i : ℕ) (s : Standing) (e : Ends) → (eqb (s .n) 0 && eqb (s .all) 0) ≡ true → Aheads masks rows lens sets ends w start i s (e .greedy) (e .posix) → Ended masks rows lens sets ends w start e
-  ahead-over i s e over inv r lent below =
-      let before = inv r lent below in
-      let zeros = both-zero (s .n) (s .all) over in
-      record {
-        greedily = sym (greedy-stop r (lent .numbered) (drop i w) (means (count r) s) i (placeOf (e .greedy)) (ap (λ n. take n (s .list)) (zeros .0))) ∙ before .greedily;
-        longest = sym (posix-stop r (lent .numbered) (drop i w) (means (count r) s) i (placeOf (e .posix)) (none-all (s .all) (from 0 (count r)) (zeros .1))) ∙ before .longest;
-      }
+  pub ahead-over : {i : ℕ} {s : Standing} (e : Ends) → (eqb (s .n) 0 && eqb (s .all) 0) ≡ true → Aheads a w start i s (e .greedy) (e .posix) → Ended a w start e
+  ahead-over {i} {s} e over inv = record {
+    last = λ {r} lent below.
+        let before = inv .here lent below in
+        let zeros = both-zero (s .n) (s .all) over in
+        record {
+          greedily = sym (greedy-stop r (lent .numbered) (drop i w) (means (count r) s) i (placeOf (e .greedy)) (ap (λ n. take n (s .list)) (zeros .0))) ∙ before .greedily;
+          longest = sym (posix-stop r (lent .numbered) (drop i w) (means (count r) s) i (placeOf (e .posix)) (none-all (s .all) (from 0 (count r)) (zeros .1))) ∙ before .longest;
+        };
+  }

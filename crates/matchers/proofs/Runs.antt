@@ -22,7 +22,7 @@ use Rattle.theory.proofs.Sizes.{order-below}
 use Rattle.arrays.specs.Decoded.{hasBit}
 use Rattle.arrays.proofs.Bits.{and-true}
 use Rattle.standing.specs.declared.Standing.{Standing}
-use Rattle.standing.specs.Stands.{means, Lent, Fine}
+use Rattle.standing.specs.Stands.{means, arrays, Lent, Fine}
 use Rattle.standing.proofs.Leaves.{and-bit}
 use Rattle.matchers.proofs.Back.{below-at}
 use Rattle.matchers.specs.Passes.{Same, kindOf, Run}
@@ -71,7 +71,7 @@ same-leaves n a b la lb h =
 pub same-means : (c : ℕ) (s t : Standing) → Same s t → means c s ≡ means c t
 same-means c s t e = λ i. record { order = e .leaves i; first = e .first i; all = filter (hasBit (e .all i)) (from 0 c); some = e .some i }
 
-module _ (r : Re) (masks rows lens sets ends : List ℕ) (lent : Lent r masks rows lens sets ends) (w : List ℕ) (below : Below 256 w) (s : Standing) (fine : Fine r s) where
+module _ (r : Re) (masks rows lens sets ends : List ℕ) (lent : Lent r (arrays masks rows lens sets ends)) (w : List ℕ) (below : Below 256 w) (s : Standing) (fine : Fine r s) where
   -- A leaf of (c) takes two bytes of one kind, or neither.
   takes-same : (i k : ℕ) → i < length w → k < length w → kindOf masks w (s .all) k ≡ kindOf masks w (s .all) i → (p : ℕ) → T (member p (means (count r) s .all)) → has r p (getD w k 0) ≡ has r p (getD w i 0)
   takes-same i k h l e p t =

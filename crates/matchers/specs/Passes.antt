@@ -13,10 +13,12 @@ use Rattle.theory.specs.Lines.{Below}
 use Rattle.theory.specs.Code.Passes.{farthest, leftmostStart}
 use Rattle.arrays.specs.Decoded.{hasBit}
 use Rattle.standing.specs.declared.Standing.{Standing}
-use Rattle.standing.specs.Stands.{Lent}
+use Rattle.standing.specs.Stands.{Arrays, arrays, Lent}
 use Rattle.matchers.specs.declared.Place.{Place}
 use Rattle.matchers.specs.declared.Place.the-variants.{At, Missing}
 use Rattle.matchers.specs.declared.Ends.{Ends}
+use Rattle.matchers.specs.declared.Spans.{Spans}
+use Rattle.matchers.specs.declared.Spans.the-variants.{Nowhere, Located}
 
 abbrev pub placeOf : Place → Option ℕ
 placeOf (At i) = some i
@@ -77,7 +79,7 @@ Added is x p r = (k : ℕ) → hasBit r k ≡ (hasBit x k || (is && eqb k p))
 
 -- The pass back: the leftmost start.
 abbrev pub Leftmost : List ℕ → List ℕ → List ℕ → List ℕ → Place → Type 0
-Leftmost masks sets ends w s = (r : Re) (rows lens : List ℕ) → Lent r masks rows lens sets ends → Below 256 w → placeOf s ≡ leftmostStart r w
+Leftmost masks sets ends w s = (r : Re) (rows lens : List ℕ) → Lent r (arrays masks rows lens sets ends) → Below 256 w → placeOf s ≡ leftmostStart r w
 
 -- The same for a pattern that does not match the empty line, by the leaves that some row wants and those of them whose row has the end.
 abbrev pub LastStart : List ℕ → List ℕ → List ℕ → ℕ → ℕ → Place → Type 0
@@ -117,5 +119,11 @@ pub record Farthest (r : Re) (w : List ℕ) (i : ℕ) (e : Ends) : Type 0 where
   pub greedily : placeOf (e .greedy) ≡ farthest r (λ s. s .first) (drop i w) i
   pub longest : placeOf (e .posix) ≡ farthest r (λ s. s .some) (drop i w) i
 
-abbrev pub Ended : List ℕ → List ℕ → List ℕ → List ℕ → List ℕ → List ℕ → ℕ → Ends → Type 0
-Ended masks rows lens sets ends w i e = (r : Re) → Lent r masks rows lens sets ends → Below 256 w → Farthest r w i e
+pub record Ended (a : Arrays) (w : List ℕ) (i : ℕ) (e : Ends) : Type 0 where
+  pub last : {r : Re} → Lent r a → Below 256 w → Farthest r w i e
+
+-- Both spans from a start, where both ends are.
+abbrev pub spansFrom : ℕ → Option ℕ → Option ℕ → Spans
+spansFrom i none p = Nowhere
+spansFrom i (some j) none = Nowhere
+spansFrom i (some j) (some k) = Located i j k

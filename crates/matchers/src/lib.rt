@@ -5,21 +5,20 @@ ghost use mathlib.Core.Option.{some};
 ghost use Prim.Native.Nat.{_≤_, _<_};
 ghost use lib.ListN.{length};
 ghost use lib.Dec.{eqb};
-ghost use Rattle.theory.specs.Spans.{spanOr, nowhere};
 ghost use Rattle.standing.specs.Sets.{Parted};
-ghost use Rattle.matchers.specs.Cuts.{Cuts, spanOf};
-ghost use Rattle.matchers.specs.Passes.{placeOf, wantsOf, Covers, Ending, Leading, Memory, Recalled, Before, Kept, Added, LastStart, Leftmost, SameLeaves, SameIf, Run, Passed, Ended};
+ghost use Rattle.standing.specs.Stands.{arrays};
+ghost use Rattle.matchers.specs.Cuts.{Cuts};
+ghost use Rattle.matchers.specs.Passes.{placeOf, spansFrom, wantsOf, Covers, Ending, Leading, Memory, Recalled, Before, Kept, Added, LastStart, Leftmost, SameLeaves, SameIf, Run, Passed, Ended};
 use standing::Standing;
 
-// A span, or none.
-pub enum Span {
+// Both spans of a line: nowhere, or one start with the greedy and the POSIX end.
+pub enum Spans {
     Nowhere,
-    Located { start: usize, end: usize },
-}
-
-pub struct Spans {
-    pub greedy: Span,
-    pub posix: Span,
+    Located {
+        start: usize,
+        greedy: usize,
+        posix: usize,
+    },
 }
 
 // A place of the line, or none.
@@ -323,7 +322,7 @@ fn ends_from<'a>(
     sets: &'a [u64; 65],
     ends: &'a [u8; 65],
 ) -> Ends
-    ensures { λ r. ⌜ Ended (now (masks .entry)) (now (rows .entry)) (now (lens .entry)) (now (sets .entry)) (now (ends .entry)) (now (line .entry)) start r ⌝ }
+    ensures { λ r. ⌜ Ended (arrays (now (masks .entry)) (now (rows .entry)) (now (lens .entry)) (now (sets .entry)) (now (ends .entry))) (now (line .entry)) start r ⌝ }
 {
     let mut s = Standing::initial(masks, rows, lens, sets, ends);
     let mut greedy = at_if(s.first, start, Place::Missing);
@@ -343,12 +342,20 @@ fn ends_from<'a>(
     Ends { greedy, posix }
 }
 
-fn span_from(start: usize, end: Place) -> Span
-    ensures { λ r. ⌜ spanOf r ≡ spanOr start (placeOf end) nowhere ⌝ }
+// Both spans from the leftmost start, where both ends are.
+fn spans_from(start: usize, greedy: Place, posix: Place) -> Spans
+    ensures { λ r. ⌜ r ≡ spansFrom start (placeOf greedy) (placeOf posix) ⌝ }
 {
-    match end {
-        Place::At(e) => Span::Located { start, end: e },
-        Place::Missing => Span::Nowhere,
+    let Place::At(short) = greedy else {
+        return Spans::Nowhere;
+    };
+    let Place::At(long) = posix else {
+        return Spans::Nowhere;
+    };
+    Spans::Located {
+        start,
+        greedy: short,
+        posix: long,
     }
 }
 
@@ -361,20 +368,14 @@ pub fn cut<'a>(
     sets: &'a [u64; 65],
     ends: &'a [u8; 65],
 ) -> Spans
-    ensures cuts { λ r. ⌜ Cuts (now (masks .entry)) (now (rows .entry)) (now (lens .entry)) (now (sets .entry)) (now (ends .entry)) (now (line .entry)) r ⌝ }
+    ensures cuts { λ r. ⌜ Cuts (arrays (now (masks .entry)) (now (rows .entry)) (now (lens .entry)) (now (sets .entry)) (now (ends .entry))) (now (line .entry)) r ⌝ }
 {
     let found = leftmost_start(line, masks, sets, ends);
     let Place::At(i) = found else {
-        return Spans {
-            greedy: Span::Nowhere,
-            posix: Span::Nowhere,
-        };
+        return Spans::Nowhere;
     };
     let last = ends_from(line, i, masks, rows, lens, sets, ends);
     let greedy = last.greedy;
     let posix = last.posix;
-    Spans {
-        greedy: span_from(i, greedy),
-        posix: span_from(i, posix),
-    }
+    spans_from(i, greedy, posix)
 }

@@ -5,7 +5,6 @@ use Prim.Native.Nat.{ℕ, _<_}
 use mathlib.Core.List.{List}
 use native.Mathlib.Omega.{arith}
 use lib.ListN.{getD}
-use Rattle.theory.specs.Spans.{nowhere}
 use Rattle.theory.proofs.Lines.{below-each}
 use Rattle.grammar.specs.WriteOut.{writeOut}
 use Rattle.grammar.specs.Refusals as Due
@@ -17,9 +16,9 @@ use Rattle.reader.specs.declared.Reading.{Reading}
 use Rattle.reader.specs.Reading.{ReadRight}
 use Rattle.reader.specs.Reading as Read
 use Rattle.reader.proofs.Laws.{accepted-leaves, accepted-holds}
-use Rattle.matchers.specs.declared.Span.the-variants.{Nowhere}
 use Rattle.matchers.specs.declared.Spans.{Spans}
-use Rattle.matchers.specs.Cuts.{spanOf, Cut}
+use Rattle.matchers.specs.declared.Spans.the-variants.{Nowhere}
+use Rattle.matchers.specs.Cuts.{Cut}
 use Rattle.readings.specs.Replies.{meaning, due, Beside, Replied, CutBy}
 
 module _ (w : List ℕ) (x : Pattern) (s : Spans) where
@@ -32,7 +31,7 @@ module _ (w : List ℕ) (x : Pattern) (s : Spans) where
   means (Refused n q) (Due.accepted t) e k = absurd (let z : _≡_ {A = ℕ} 0 1 = cc in omega arith)
   means (Refused n q) (Due.refused m j) e k = let y : n ≡ m = cc in let z : q ≡ j = cc in rw (y, z)
 
-  beside : (c : Answer) → ((n q : ℕ) → c ≡ Refused n q → (spanOf (s .greedy) ≡ nowhere) × (spanOf (s .posix) ≡ nowhere)) → Beside c s
+  beside : (c : Answer) → ((n q : ℕ) → c ≡ Refused n q → s ≡ Nowhere) → Beside c s
   beside Accepted h = tt
   beside (Refused n q) h = h n q refl
 
@@ -40,7 +39,7 @@ apart : {c : Answer} {n q : ℕ} → c ≡ Accepted → c ≡ Refused n q → �
 apart e f = absurd (let z : _≡_ {A = ℕ} 0 1 = cc in omega arith)
 
 replied : {p w : List ℕ} (r : Reading) (s : Spans) → ReadRight p r → (r .answer ≡ Accepted → Cut (decode (r .pattern)) w s)
-    → ((n q : ℕ) → r .answer ≡ Refused n q → (spanOf (s .greedy) ≡ nowhere) × (spanOf (s .posix) ≡ nowhere))
+    → ((n q : ℕ) → r .answer ≡ Refused n q → s ≡ Nowhere)
     → Replied p w (record { answer = r .answer; spans = s })
 replied {p} {w} r s h a b = record {
   answer = h .answer;
@@ -51,9 +50,9 @@ replied {p} {w} r s h a b = record {
 
 -- THE REPLY IS THE ONE DUE: of an accepted pattern both spans by its arrays,
 pub replied-accepted : {p w : List ℕ} (r : Reading) (s : Spans) → ReadRight p r → r .answer ≡ Accepted → CutBy (r .pattern) w s → ((i : ℕ) → getD w i 0 < 256) → Replied p w (record { answer = r .answer; spans = s })
-replied-accepted {w = w} r s h e k l = replied r s h (λ f. k (accepted-leaves h e .0) (accepted-leaves h e .1) (accepted-holds h e) (below-each 256 w l)) (λ n q f. absurd (apart e f))
+replied-accepted {w = w} r s h e k l = replied r s h (λ f. k .cut (accepted-leaves h e .0) (accepted-leaves h e .1) (accepted-holds h e) (below-each 256 w l)) (λ n q f. absurd (apart e f))
 
 -- and of a refused one none.
 pub replied-refused : {p w : List ℕ} {n q : ℕ} (r : Reading) → ReadRight p r → r .answer ≡ Refused n q
-    → Replied p w (record { answer = r .answer; spans = record { greedy = Nowhere; posix = Nowhere } })
-replied-refused r h e = replied r _ h (λ f. absurd (apart f e)) (λ m k f. (refl, refl))
+    → Replied p w (record { answer = r .answer; spans = Nowhere })
+replied-refused r h e = replied r _ h (λ f. absurd (apart f e)) (λ m k f. refl)

@@ -4,7 +4,7 @@ use mathlib.Core.Path.{_≡_}
 use Prim.Native.Nat.{ℕ, _≤_}
 use mathlib.Core.List.{List}
 use Rattle.theory.specs.Pattern.{count, Numbered}
-use Rattle.theory.specs.Spans.{Span, nowhere, greedy, posix}
+use Rattle.theory.specs.Spans.{Span, greedy, posix}
 use Rattle.theory.specs.Lines.{Below}
 use Rattle.grammar.specs.WriteOut.{writeOut}
 use Rattle.grammar.specs.Refusals.{Right}
@@ -15,7 +15,8 @@ use Rattle.arrays.specs.Finished.{Holds}
 use Rattle.reader.specs.declared.Answer.{Answer}
 use Rattle.reader.specs.declared.Answer.the-variants.{Accepted, Refused}
 use Rattle.matchers.specs.declared.Spans.{Spans}
-use Rattle.matchers.specs.Cuts.{spanOf, Cut}
+use Rattle.matchers.specs.declared.Spans.the-variants.{Nowhere}
+use Rattle.matchers.specs.Cuts.{greedyOf, posixOf, Cut}
 use Rattle.readings.specs.declared.Reply.{Reply}
 
 -- The refusal's number and place, or the greedy and the POSIX span.
@@ -25,7 +26,7 @@ pub data Told : Type 0 where
 
 -- What a reply says.
 abbrev pub meaning : Answer → Spans → Told
-meaning Accepted s = cut (spanOf (s .greedy)) (spanOf (s .posix))
+meaning Accepted s = cut (greedyOf s) (posixOf s)
 meaning (Refused n k) s = refused n k
 
 -- What is due for the line w by the grammar's answer.
@@ -36,7 +37,7 @@ due (Due.refused n k) w = refused n k
 -- A refused pattern's spans are none.
 abbrev pub Beside : Answer → Spans → Type 0
 Beside Accepted s = Unit {0}
-Beside (Refused n k) s = (spanOf (s .greedy) ≡ nowhere) × (spanOf (s .posix) ≡ nowhere)
+Beside (Refused n k) s = s ≡ Nowhere
 
 -- The reply is the one of the right answer.
 pub record Replied (p w : List ℕ) (r : Reply) : Type 0 where
@@ -46,5 +47,5 @@ pub record Replied (p w : List ℕ) (r : Reply) : Type 0 where
   pub beside : Beside (r .answer) (r .spans)
 
 -- Both spans, for arrays that are those of a pattern.
-abbrev pub CutBy : Pattern → List ℕ → Spans → Type 0
-CutBy x w s = Numbered 0 (decode x) → count (decode x) ≤ 64 → Holds x (decode x) → Below 256 w → Cut (decode x) w s
+pub record CutBy (x : Pattern) (w : List ℕ) (s : Spans) : Type 0 where
+  pub cut : Numbered 0 (decode x) → count (decode x) ≤ 64 → Holds x (decode x) → Below 256 w → Cut (decode x) w s

@@ -1,7 +1,6 @@
 // Both readings of a line, from the pattern's bytes. For many lines with one pattern: `reader::read` and `follow::tables_of` once, then `matchers::cut` for each.
 ghost use Rattle.readings.specs.Replies.{CutBy, Replied};
 use arrays::Pattern;
-use matchers::Span;
 use matchers::Spans;
 use reader::Answer;
 
@@ -33,10 +32,7 @@ pub fn cut_line(pattern: &[u8], line: &[u8]) -> Reply
     let Answer::Accepted = answer else {
         return Reply {
             answer: answer,
-            spans: Spans {
-                greedy: Span::Nowhere,
-                posix: Span::Nowhere,
-            },
+            spans: Spans::Nowhere,
         };
     };
     let arrays = reading.pattern;

@@ -1,6 +1,6 @@
 -- What is packed is the standing's record, and what is unpacked from a record is its standing.
 -- Assumes nothing.
-use mathlib.Core.Path.{_≡_, refl, sym, _∙_}
+use mathlib.Core.Path.{_≡_, refl, sym, ap, _∙_}
 use mathlib.Core.Bool.{Bool, true, false, cond}
 use mathlib.Core.List.{List, [], _∷_, _++_}
 use Prim.Native.Nat.{ℕ, _+_, _*_, _/_, _%_, _≤_, _<_, min}
@@ -17,10 +17,11 @@ use Rattle.theory.proofs.Tests.{not-true, same-test, or-left, or-right, or-case
 use Rattle.theory.proofs.Members.{Within, filter-of, filter-passes, member-from}
 use Rattle.theory.proofs.Sizes.{order-once, order-below, order-size}
 use Rattle.arrays.specs.Decoded.{hasBit}
+use Rattle.verdict.specs.Record.{recordBytes}
 use Rattle.verdict.proofs.Packed.{setBytes, sixBytes, packed}
 use Rattle.verdict.proofs.Injective.{below-by}
 use Rattle.standing.specs.declared.Standing.{Standing}
-use Rattle.standing.specs.Stands.{means, Fine}
+use Rattle.standing.specs.Stands.{means, Fine, Stands}
 use Rattle.standing.proofs.Sets.{from-below, filter-cut}
 use Rattle.records.specs.Packing.{Packed, Unpacked}
 use Rattle.records.specs.Bytes.{one, bytesOf, setOf, threes, fours}
@@ -50,10 +51,12 @@ filter-below f c p h = same-test (member p (filter f (from 0 c))) (f p) (filter-
 filter-above : (f : ℕ → Bool) (c p : ℕ) → c ≤ p → member p (filter f (from 0 c)) ≡ false
 filter-above f c p h = not-true (member p (filter f (from 0 c))) λ t. omega (arith, from-below p 0 c (filter-within f (from 0 c) p t))
 
--- THE RECORD, from the fields as the code puts them in.
-pub pack-right : (s : Standing) (origin byte : ℕ) → length (s .list) ≡ 64 → byte < 256
-    → Packed s origin byte (put (2 * min (s .n) 64 + one (s .first)) (one (s .some) * 128) ((origin / 256 % 256) ∷ (origin % 256) ∷ byte ∷ []) (bytesOf 8 (s .all)) (threes 16 (take (min (s .n) 64) (s .list))))
-pack-right s origin byte long small r most fine =
+-- The record, from the fields as the code puts them in.
+abbrev given : Standing → ℕ → ℕ → List ℕ
+given s origin byte = put (2 * min (s .n) 64 + one (s .first)) (one (s .some) * 128) ((origin / 256 % 256) ∷ (origin % 256) ∷ byte ∷ []) (bytesOf 8 (s .all)) (threes 16 (take (min (s .n) 64) (s .list)))
+
+put-right : (s : Standing) (origin byte : ℕ) → length (s .list) ≡ 64 → byte < 256 → (r : Re) → Fine r s → given s origin byte ≡ recordBytes (means (count r) s) origin byte
+put-right s origin byte long small r fine =
     let m = means (count r) s in
     let n : min (s .n) 64 ≡ s .n = min-eq-left (fine .size) in
     let size : length (m .order) % 128 ≡ s .n = omega (arith, length-take-le (s .n) (s .list) (omega (arith, fine .size)), fine .size) in
@@ -65,6 +68,10 @@ pack-right s origin byte long small r most fine =
     leaves : (p : ℕ) → Dec (p < count r) → member p (filter (hasBit (s .all)) (from 0 (count r))) ≡ hasBit (s .all) p
     leaves p (yes h) = filter-below (hasBit (s .all)) (count r) p h
     leaves p (no h) = filter-above (hasBit (s .all)) (count r) p (omega arith) ∙ sym (fine .set p (omega arith))
+
+-- THE RECORD of the standing.
+pub pack-right : (s : Standing) (origin byte : ℕ) → length (s .list) ≡ 64 → byte < 256 → Packed s origin byte (given s origin byte)
+pack-right s origin byte long small = record { is = λ {r} most x. put-right s origin byte long small r (x .fine) ∙ ap (λ m. recordBytes m origin byte) (x .is) }
 
 -- The standing as its fields are taken out.
 abbrev pub taken : List ℕ → Standing
@@ -130,6 +137,8 @@ module _ (r : Re) (d : Numbered 0 r) (most : count r ≤ 64) (w : List ℕ) (ori
 -- THE STANDING, from the fields as the code takes them out.
 pub unpack-right : (v : List ℕ) → Unpacked v (taken v)
 unfolding s t
-unpack-right v r w origin byte d most e =
-    let all : v ≡ fields (standing r w) origin byte = e ∙ packed (standing r w) origin byte in
-    rw all (s-fine r d most w origin byte, s-means r d most w origin byte)
+unpack-right v = record {
+  stands = λ {r} w origin byte d most e.
+      let all : v ≡ fields (standing r w) origin byte = e ∙ packed (standing r w) origin byte in
+      rw all (record { fine = s-fine r d most w origin byte; is = s-means r d most w origin byte });
+}

@@ -11,7 +11,7 @@ use Rattle.verdict.specs.Record.{recordBytes}
 use Rattle.verdict.specs.Table.{slots}
 use Rattle.verdict.proofs.Tables.{slots-fit}
 use Rattle.standing.specs.declared.Standing.{Standing}
-use Rattle.standing.specs.Stands.{First}
+use Rattle.standing.specs.Stands.{Arrays, First}
 use Rattle.groups.specs.declared.Groups.{Groups}
 use Rattle.groups.specs.Grouped.{Grouped}
 use Rattle.records.specs.Packing.{Packed}
@@ -23,15 +23,16 @@ use Rattle.search.specs.Ends.{Searched}
 use Rattle.search.specs.Turns.{Grouping, Run}
 use Rattle.search.proofs.Turns.{first-record, no-slot}
 
-module _ (masks rows lens sets ends t₀ : List ℕ) (m : ℕ) (e : m ≡ slots (length t₀)) where
-  pub search-nowhere : m ≡ 0 → Searched masks rows lens sets ends t₀ Full t₀
-  search-nowhere z r l = no-slot r (l .numbered) t₀ (sym e ∙ z)
+module _ {a : Arrays} {t₀ : List ℕ} {m : ℕ} (e : m ≡ slots (length t₀)) where
+  pub search-nowhere : m ≡ 0 → Searched a t₀ Full t₀
+  search-nowhere z = record { ends = λ {r} l. no-slot r (sym e ∙ z) }
 
-  pub search-run : (g : Groups) (s : Standing) (v t₁ : List ℕ) (p : Progress) (t : List ℕ) → 0 < m → Grouped masks g → First masks rows lens sets ends s → Packed s 0 0 v → t₁ ≡ put t₀ 0 v
-      → Run (Grouping masks (g .group) (g .lowest)) masks rows lens sets ends m t₁ p t → Searched masks rows lens sets ends t₀ p t
-  search-run g s v t₁ p t h grouped first packed stored run r l =
-      let (fine, means) = first r l in
-      let is : v ≡ recordBytes (standing r []) 0 0 = packed r (l .most) fine ∙ ap (λ z. recordBytes z 0 0) means in
-      let room : 0 < slots (length t₀) = omega arith in
-      let there : put t₀ 0 v ≡ stores t₀ (64 * 0) v = slot-there t₀ 0 _ t₀ (omega (arith, slots-fit (length t₀))) in
-      run (g .count, grouped) r l t₀ e (first-record r (l .numbered) t₀ room (stored ∙ there ∙ ap (stores t₀ 0) is))
+  pub search-run : {g : Groups} {s : Standing} {v t₁ : List ℕ} {p : Progress} {t : List ℕ} → 0 < m → Grouped (a .masks) g → First a s → Packed s 0 0 v → t₁ ≡ put t₀ 0 v
+      → Run (Grouping (a .masks) (g .group) (g .lowest)) a m t₁ p t → Searched a t₀ p t
+  search-run {g} {s} {v} h grouped first packed stored run = record {
+    ends = λ {r} l.
+        let is : v ≡ recordBytes (standing r []) 0 0 = packed .is (l .most) (first .stands l) in
+        let room : 0 < slots (length t₀) = omega arith in
+        let there : put t₀ 0 v ≡ stores t₀ (64 * 0) v = slot-there t₀ 0 _ t₀ (omega (arith, slots-fit (length t₀))) in
+        run .leads (g .count, grouped) l e (first-record r room (stored ∙ there ∙ ap (stores t₀ 0) is));
+  }

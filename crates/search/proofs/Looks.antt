@@ -15,9 +15,9 @@ use Rattle.verdict.specs.Table.{body, lastByte, numberOf, records}
 use Rattle.verdict.proofs.Tables.{records-size, slots-fit, onto-length, slot}
 use Rattle.table.specs.Slots.{slotAt, Agree, Looked}
 use Rattle.table.proofs.Laws.{agree-same, same-agree}
-use Rattle.search.specs.Ends.{Holds}
+use Rattle.search.specs.Ends.{HoldsRecords}
 
-module _ (r : Re) {t₀ : List ℕ} {L : List (List ℕ)} {t : List ℕ} (h : Holds r t₀ L t) where
+module _ (r : Re) {t₀ : List ℕ} {L : List (List ℕ)} {t : List ℕ} (h : HoldsRecords r t₀ L t) where
   -- The table keeps its length,
   pub same-length : length t ≡ length t₀
   same-length = ap length (h .table) ∙ onto-length t₀ (records r L) (omega (arith, records-size r L L, slots-fit (length t₀), h .fits))

@@ -12,15 +12,17 @@ use Rattle.theory.specs.Pattern.{Re, Numbered, SameGroup}
 use Rattle.theory.specs.Standing.{standing, isWitness}
 use Rattle.theory.specs.Records.{at}
 use Rattle.theory.proofs.Lines.{snoc-size, snoc-each, snoc-old, snoc-last, below-snoc}
-use Rattle.theory.proofs.Search.{begin, known, new, turn, trace-bytes}
-use Rattle.theory.proofs.Records.{carries, Search, search-records, search-complete}
+use Rattle.theory.specs.Code.Search.{begin, known, new, turn, Search}
+use Rattle.theory.proofs.Search.{trace-bytes}
+use Rattle.theory.proofs.Records.{carries, search-records, search-complete}
 use Rattle.theory.proofs.Run.{start-no-witness}
 use Rattle.theory.proofs.Groups.{pass-over}
 use Rattle.verdict.specs.Record.{recordBytes}
 use Rattle.verdict.specs.Table.{recordOf, recordsOf, records, slots, onto}
 use Rattle.verdict.proofs.Tables.{records-size, record-64, records-add, record-is, record-zero, onto-more, slots-fit, onto-sets}
 use Rattle.standing.specs.declared.Standing.{Standing}
-use Rattle.search.specs.Ends.{Holds, AllFound, WitnessFound, SlotsFull}
+use Rattle.standing.specs.Stands.{Stands}
+use Rattle.search.specs.Ends.{HoldsRecords, AllFound, WitnessFound, SlotsFull}
 use Rattle.search.specs.Turns.{Searching, Working}
 
 -- The table with one record, and with none.
@@ -34,33 +36,32 @@ no-record : (r : Re) (t₀ : List ℕ) → t₀ ≡ onto t₀ (records r [])
 unfolding recordsOf
 no-record r t₀ = refl
 
-module _ (r : Re) (d : Numbered 0 r) (t₀ : List ℕ) where
-  -- The line that the byte c makes of line q.
-  abbrev pub line : {s : Standing} {q c n : ℕ} {t : List ℕ} → Working r d t₀ s q c n t → List ℕ
-  line {q = q} {c = c} w = at (w .state .lines) q ++ (c ∷ [])
+-- The line that the byte c makes of line q.
+abbrev pub line : {r : Re} {t₀ : List ℕ} {s : Standing} {q c n : ℕ} {t : List ℕ} → Working r t₀ s q c n t → List ℕ
+line {q = q} {c = c} w = at (w .state .lines) q ++ (c ∷ [])
 
-  module _ {s : Standing} {q c n : ℕ} {t : List ℕ} (w : Working r d t₀ s q c n t) (byte : c < 256) where
+module _ {r : Re} (d : Numbered 0 r) {t₀ : List ℕ} where
+  module _ {s : Standing} {q c n : ℕ} {t : List ℕ} (w : Working r t₀ s q c n t) (byte : c < 256) where
     here : q < length (w .state .lines)
     here = omega (arith, w .inside, w .state .size)
 
-    keeps : Search r d (w .state .lines) q (suc c) → Working r d t₀ s q (suc c) n t
+    keeps : Search r (w .state .lines) q (suc c) → Working r t₀ s q (suc c) n t
     keeps x = record {
       state = record { lines = w .state .lines; size = w .state .size; holds = w .state .holds; none = w .state .none; search = x };
       inside = w .inside;
-      fine = w .fine;
       stands = w .stands;
     }
 
     -- A record has the standing,
-    pub known-turn : (k : ℕ) → k < n → standing r (at (w .state .lines) k) ≡ standing r (line w) → Working r d t₀ s q (suc c) n t
+    pub known-turn : (k : ℕ) → k < n → standing r (at (w .state .lines) k) ≡ standing r (line w) → Working r t₀ s q (suc c) n t
     known-turn k l e = keeps (known (w .state .search) here byte k (omega (arith, w .state .size)) e)
 
     -- or the byte's group has a lower one.
-    pub passed-turn : (b : ℕ) → b < c → SameGroup r b c → Working r d t₀ s q (suc c) n t
+    pub passed-turn : (b : ℕ) → b < c → SameGroup r b c → Working r t₀ s q (suc c) n t
     passed-turn b l g = keeps (pass-over r d (w .state .search) here byte b l g)
 
     module _ (fresh : (k : ℕ) → k < n → standing r (at (w .state .lines) k) ≢ standing r (line w)) where
-      grown : Search r d (w .state .lines ++ (line w ∷ [])) q (suc c)
+      grown : Search r (w .state .lines ++ (line w ∷ [])) q (suc c)
       grown = new (w .state .search) here byte λ k l. fresh k (omega (arith, w .state .size))
 
       -- No slot is left.
@@ -80,7 +81,7 @@ module _ (r : Re) (d : Numbered 0 r) (t₀ : List ℕ) where
         more : length (w .state .lines ++ (line w ∷ [])) ≡ suc n
         more = omega (arith, snoc-size (w .state .lines) (line w), w .state .size)
 
-        added : Holds r t₀ (w .state .lines ++ (line w ∷ [])) t′
+        added : HoldsRecords r t₀ (w .state .lines ++ (line w ∷ [])) t′
         added =
             let L = w .state .lines in
             let u = line w in
@@ -99,7 +100,7 @@ module _ (r : Re) (d : Numbered 0 r) (t₀ : List ℕ) where
             }
 
         -- A new record, no witness's,
-        pub new-turn : (T (isWitness (standing r (line w))) → ⊥) → Working r d t₀ s q (suc c) (suc n) t′
+        pub new-turn : (T (isWitness (standing r (line w))) → ⊥) → Working r t₀ s q (suc c) (suc n) t′
         new-turn h = record {
           state = record {
             lines = w .state .lines ++ (line w ∷ []);
@@ -111,12 +112,11 @@ module _ (r : Re) (d : Numbered 0 r) (t₀ : List ℕ) where
             search = grown;
           };
           inside = omega (arith, w .inside);
-          fine = w .fine;
-          stands = w .stands ∙ ap (standing r) (sym (snoc-old (w .state .lines) (line w) q here));
+          stands = subst (λ u. Stands r s (standing r u)) (sym (snoc-old (w .state .lines) (line w) q here)) (w .stands);
         }
 
         -- or a witness's.
-        pub witness-turn : T (isWitness (standing r (line w))) → WitnessFound r d t₀ (suc n) t′
+        pub witness-turn : T (isWitness (standing r (line w))) → WitnessFound r t₀ (suc n) t′
         witness-turn h = record {
           lines = w .state .lines;
           line = line w;
@@ -130,7 +130,7 @@ module _ (r : Re) (d : Numbered 0 r) (t₀ : List ℕ) where
         }
 
   -- Record q is carried on by all bytes.
-  pub next-record : {s : Standing} {q n : ℕ} {t : List ℕ} → Working r d t₀ s q 256 n t → Searching r d t₀ (suc q) 0 n t
+  pub next-record : {s : Standing} {q n : ℕ} {t : List ℕ} → Working r t₀ s q 256 n t → Searching r t₀ (suc q) 0 n t
   next-record w = record {
     lines = w .state .lines;
     size = w .state .size;
@@ -140,37 +140,37 @@ module _ (r : Re) (d : Numbered 0 r) (t₀ : List ℕ) where
   }
 
   -- All records are.
-  pub all-found : {n : ℕ} {t : List ℕ} → Searching r d t₀ n 0 n t → AllFound r t₀ n t
+  pub all-found : {n : ℕ} {t : List ℕ} → Searching r t₀ n 0 n t → AllFound r t₀ n t
   all-found x = record {
     lines = x .lines;
     size = x .size;
     holds = x .holds;
     alike = record {
       records = search-records r d (x .search);
-      complete = search-complete r d (subst (λ k. Search r d (x .lines) k 0) (sym (x .size)) (x .search));
+      complete = search-complete r d (subst (λ k. Search r (x .lines) k 0) (sym (x .size)) (x .search));
       none = x .none;
     };
   }
 
-  -- The empty line's record stands in slot 0,
-  pub first-record : {t : List ℕ} → 0 < slots (length t₀) → t ≡ sets t₀ 0 (recordBytes (standing r []) 0 0) → Searching r d t₀ 0 0 1 t
-  first-record h e = record {
-    lines = [] ∷ [];
-    size = refl;
-    holds = record { fits = h; table = e ∙ sym (one-record r t₀ h) };
-    none = λ k. elim k [ zero ↦ λ l i. start-no-witness r i | suc m ↦ λ l. absurd (omega arith) ];
-    search = begin;
-  }
+-- The empty line's record stands in slot 0,
+pub first-record : (r : Re) {t₀ t : List ℕ} → 0 < slots (length t₀) → t ≡ sets t₀ 0 (recordBytes (standing r []) 0 0) → Searching r t₀ 0 0 1 t
+first-record r {t₀} h e = record {
+  lines = [] ∷ [];
+  size = refl;
+  holds = record { fits = h; table = e ∙ sym (one-record r t₀ h) };
+  none = λ k. elim k [ zero ↦ λ l i. start-no-witness r i | suc m ↦ λ l. absurd (omega arith) ];
+  search = begin;
+}
 
-  -- if there is one.
-  pub no-slot : slots (length t₀) ≡ 0 → SlotsFull r t₀ t₀
-  no-slot h = record {
-    lines = [];
-    size = sym h;
-    holds = record { fits = omega arith; table = no-record r t₀ };
-    full = record {
-      records = record { bytes = λ k l. absurd (omega arith); before = λ k l. absurd (omega arith); fresh = λ j k o l. absurd (omega arith) };
-      none = λ k l. absurd (omega arith);
-      more = ([], tt, λ k l. absurd (omega arith));
-    };
-  }
+-- if there is one.
+pub no-slot : (r : Re) {t₀ : List ℕ} → slots (length t₀) ≡ 0 → SlotsFull r t₀ t₀
+no-slot r {t₀} h = record {
+  lines = [];
+  size = sym h;
+  holds = record { fits = omega arith; table = no-record r t₀ };
+  full = record {
+    records = record { bytes = λ k l. absurd (omega arith); before = λ k l. absurd (omega arith); fresh = λ j k o l. absurd (omega arith) };
+    none = λ k l. absurd (omega arith);
+    more = ([], tt, λ k l. absurd (omega arith));
+  };
+}

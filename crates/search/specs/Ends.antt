@@ -5,18 +5,17 @@ use Prim.Native.Nat.{ℕ, suc, _≤_}
 use mathlib.Core.List.{List, [], _∷_, _++_}
 use lib.ListN.{length}
 use lib.Dec.{T}
-use Rattle.theory.specs.Pattern.{Re, Numbered}
+use Rattle.theory.specs.Pattern.{Re}
 use Rattle.theory.specs.Standing.{standing, isWitness}
 use Rattle.theory.specs.Records.{NoWitness, Alike}
-use Rattle.theory.specs.Code.Search.{Full}
-use Rattle.theory.proofs.Records.{Search}
+use Rattle.theory.specs.Code.Search.{Search, Full}
 use Rattle.verdict.specs.Table.{records, slots, onto}
-use Rattle.standing.specs.Stands.{Lent}
+use Rattle.standing.specs.Stands.{Arrays, Lent}
 use Rattle.search.specs.declared.Progress.{Progress}
 use Rattle.search.specs.declared.Progress.the-variants as Progress
 
 -- The table t, once t₀, holds the records of the lines L.
-pub record Holds (r : Re) (t₀ : List ℕ) (L : List (List ℕ)) (t : List ℕ) : Type 0 where
+pub record HoldsRecords (r : Re) (t₀ : List ℕ) (L : List (List ℕ)) (t : List ℕ) : Type 0 where
   pub fits : length L ≤ slots (length t₀)
   pub table : t ≡ onto t₀ (records r L)
 
@@ -24,34 +23,34 @@ pub record Holds (r : Re) (t₀ : List ℕ) (L : List (List ℕ)) (t : List ℕ)
 pub record AllFound (r : Re) (t₀ : List ℕ) (n : ℕ) (t : List ℕ) : Type 0 where
   pub lines : List (List ℕ)
   pub size : length lines ≡ n
-  pub holds : Holds r t₀ lines t
+  pub holds : HoldsRecords r t₀ lines t
   pub alike : Alike r lines
 
 -- n records, the last the first witness's. The search that found them says where each comes from.
-pub record WitnessFound (r : Re) (d : Numbered 0 r) (t₀ : List ℕ) (n : ℕ) (t : List ℕ) : Type 0 where
+pub record WitnessFound (r : Re) (t₀ : List ℕ) (n : ℕ) (t : List ℕ) : Type 0 where
   pub lines : List (List ℕ)
   pub line : List ℕ
   pub size : suc (length lines) ≡ n
-  pub holds : Holds r t₀ (lines ++ (line ∷ [])) t
+  pub holds : HoldsRecords r t₀ (lines ++ (line ∷ [])) t
   pub none : NoWitness r lines
   pub witness : T (isWitness (standing r line))
   pub q : ℕ
   pub c : ℕ
-  pub search : Search r d (lines ++ (line ∷ [])) q c
+  pub search : Search r (lines ++ (line ∷ [])) q c
 
 -- As many records as there are slots, none a witness's, and there are more.
 pub record SlotsFull (r : Re) (t₀ t : List ℕ) : Type 0 where
   pub lines : List (List ℕ)
   pub size : length lines ≡ slots (length t₀)
-  pub holds : Holds r t₀ lines t
+  pub holds : HoldsRecords r t₀ lines t
   pub full : Full r lines
 
 -- The search's end, where P says what holds of n records without a witness.
-abbrev pub Reached : (r : Re) → Numbered 0 r → List ℕ → List ℕ → (ℕ → Type 0) → Progress → Type 0
-Reached r d t₀ t P (Progress.Clear n) = P n
-Reached r d t₀ t P (Progress.Witness n) = WitnessFound r d t₀ n t
-Reached r d t₀ t P Progress.Full = SlotsFull r t₀ t
+abbrev pub Reached : Re → List ℕ → List ℕ → (ℕ → Type 0) → Progress → Type 0
+Reached r t₀ t P (Progress.Clear n) = P n
+Reached r t₀ t P (Progress.Witness n) = WitnessFound r t₀ n t
+Reached r t₀ t P Progress.Full = SlotsFull r t₀ t
 
 -- The search of the pattern whose arrays are lent, from the table t₀ to the table t.
-abbrev pub Searched : List ℕ → List ℕ → List ℕ → List ℕ → List ℕ → List ℕ → Progress → List ℕ → Type 0
-Searched masks rows lens sets ends t₀ p t = (r : Re) (l : Lent r masks rows lens sets ends) → Reached r (l .numbered) t₀ t (λ n. AllFound r t₀ n t) p
+pub record Searched (a : Arrays) (t₀ : List ℕ) (p : Progress) (t : List ℕ) : Type 0 where
+  pub ends : {r : Re} → Lent r a → Reached r t₀ t (λ n. AllFound r t₀ n t) p

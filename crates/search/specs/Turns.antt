@@ -4,31 +4,30 @@ use mathlib.Core.Path.{_≡_}
 use Prim.Native.Nat.{ℕ, suc, _≤_, _<_}
 use mathlib.Core.List.{List}
 use lib.ListN.{length}
-use Rattle.theory.specs.Pattern.{Re, count, Numbered}
+use Rattle.theory.specs.Pattern.{Re}
 use Rattle.theory.specs.Standing.{standing}
 use Rattle.theory.specs.Records.{at, NoWitness}
-use Rattle.theory.proofs.Records.{Search}
+use Rattle.theory.specs.Code.Search.{Search}
 use Rattle.verdict.specs.Table.{slots}
 use Rattle.standing.specs.declared.Standing.{Standing}
-use Rattle.standing.specs.Stands.{means, Lent, Fine}
+use Rattle.standing.specs.Stands.{Arrays, Lent, Stands}
 use Rattle.groups.specs.Grouped.{Grouped}
 use Rattle.search.specs.declared.Progress.{Progress}
 use Rattle.search.specs.declared.Progress.the-variants as Progress
-use Rattle.search.specs.Ends.{Holds, AllFound, Reached}
+use Rattle.search.specs.Ends.{HoldsRecords, AllFound, Reached}
 
-pub record Searching (r : Re) (d : Numbered 0 r) (t₀ : List ℕ) (q c n : ℕ) (t : List ℕ) : Type 0 where
+pub record Searching (r : Re) (t₀ : List ℕ) (q c n : ℕ) (t : List ℕ) : Type 0 where
   pub lines : List (List ℕ)
   pub size : length lines ≡ n
-  pub holds : Holds r t₀ lines t
+  pub holds : HoldsRecords r t₀ lines t
   pub none : NoWitness r lines
-  pub search : Search r d lines q c
+  pub search : Search r lines q c
 
 -- At work on record q, whose standing is s.
-pub record Working (r : Re) (d : Numbered 0 r) (t₀ : List ℕ) (s : Standing) (q c n : ℕ) (t : List ℕ) : Type 0 where
-  pub state : Searching r d t₀ q c n t
+pub record Working (r : Re) (t₀ : List ℕ) (s : Standing) (q c n : ℕ) (t : List ℕ) : Type 0 where
+  pub state : Searching r t₀ q c n t
   pub inside : q < n
-  pub fine : Fine r s
-  pub stands : means (count r) s ≡ standing r (at (state .lines) q)
+  pub stands : Stands r s (standing r (at (state .lines) q))
 
 -- The records without a witness stay within the slots.
 abbrev pub Within : ℕ → ℕ → Progress → Type 0
@@ -41,18 +40,15 @@ abbrev pub Grouping : List ℕ → List ℕ → List ℕ → Type 0
 Grouping masks group lowest = (n : ℕ) × Grouped masks (record { group = group; lowest = lowest; count = n })
 
 -- What the byte c leads to from record q, by what is known of the groups.
-pub record Turned (known : Type 0) (masks rows lens sets ends : List ℕ) (s : Standing) (q c n m : ℕ) (t : List ℕ) (p : Progress) (t′ : List ℕ) : Type 0 where
+pub record Turned (known : Type 0) (a : Arrays) (s : Standing) (q c n m : ℕ) (t : List ℕ) (p : Progress) (t′ : List ℕ) : Type 0 where
   pub within : Within m n p
-  pub leads : known → (r : Re) (l : Lent r masks rows lens sets ends) (t₀ : List ℕ) → m ≡ slots (length t₀) → c < 256 → Working r (l .numbered) t₀ s q c n t
-      → Reached r (l .numbered) t₀ t′ (λ k. Working r (l .numbered) t₀ s q (suc c) k t′) p
+  pub leads : known → {r : Re} {t₀ : List ℕ} → Lent r a → m ≡ slots (length t₀) → c < 256 → Working r t₀ s q c n t → Reached r t₀ t′ (λ k. Working r t₀ s q (suc c) k t′) p
 
 -- What all bytes lead to from record q.
-pub record Worked (known : Type 0) (masks rows lens sets ends : List ℕ) (q n m : ℕ) (t : List ℕ) (p : Progress) (t′ : List ℕ) : Type 0 where
+pub record Worked (known : Type 0) (a : Arrays) (q n m : ℕ) (t : List ℕ) (p : Progress) (t′ : List ℕ) : Type 0 where
   pub within : Within m n p
-  pub leads : known → (r : Re) (l : Lent r masks rows lens sets ends) (t₀ : List ℕ) → m ≡ slots (length t₀) → q < n → Searching r (l .numbered) t₀ q 0 n t
-      → Reached r (l .numbered) t₀ t′ (λ k. Searching r (l .numbered) t₀ (suc q) 0 k t′) p
+  pub leads : known → {r : Re} {t₀ : List ℕ} → Lent r a → m ≡ slots (length t₀) → q < n → Searching r t₀ q 0 n t → Reached r t₀ t′ (λ k. Searching r t₀ (suc q) 0 k t′) p
 
 -- What is found from record 0 on.
-abbrev pub Run : Type 0 → List ℕ → List ℕ → List ℕ → List ℕ → List ℕ → ℕ → List ℕ → Progress → List ℕ → Type 0
-Run known masks rows lens sets ends m t p t′ = known → (r : Re) (l : Lent r masks rows lens sets ends) (t₀ : List ℕ) → m ≡ slots (length t₀) → Searching r (l .numbered) t₀ 0 0 1 t
-    → Reached r (l .numbered) t₀ t′ (λ n. AllFound r t₀ n t′) p
+pub record Run (known : Type 0) (a : Arrays) (m : ℕ) (t : List ℕ) (p : Progress) (t′ : List ℕ) : Type 0 where
+  pub leads : known → {r : Re} {t₀ : List ℕ} → Lent r a → m ≡ slots (length t₀) → Searching r t₀ 0 0 1 t → Reached r t₀ t′ (λ n. AllFound r t₀ n t′) p

@@ -6,6 +6,7 @@ ghost use Prim.Native.Nat.{_≤_, _<_, min};
 ghost use lib.ListN.{getD};
 ghost use lib.Dec.{eqb};
 ghost use Rattle.verdict.specs.Table.{slots};
+ghost use Rattle.standing.specs.Stands.{arrays};
 ghost use Rattle.search.specs.Ends.{Searched};
 ghost use Rattle.search.specs.Turns.{Turned, Grouping, Worked, Run};
 use standing::Standing;
@@ -66,7 +67,7 @@ fn carry<'a>(
     sets: &'a [u64; 65],
     ends: &'a [u8; 65],
 ) -> Progress
-    ensures { λ r. ⌜ Turned (Unit {0}) (now (masks .entry)) (now (rows .entry)) (now (lens .entry)) (now (sets .entry)) (now (ends .entry)) s q c n slots (now (table .entry)) r (now (table .exit)) ⌝ }
+    ensures { λ r. ⌜ Turned (Unit {0}) (arrays (now (masks .entry)) (now (rows .entry)) (now (lens .entry)) (now (sets .entry)) (now (ends .entry))) s q c n slots (now (table .entry)) r (now (table .exit)) ⌝ }
 {
     let after = s.next(c, masks, rows, lens, sets, ends);
     let v = records::pack(after, q, c);
@@ -99,7 +100,7 @@ fn turn<'a>(
     sets: &'a [u64; 65],
     ends: &'a [u8; 65],
 ) -> Progress
-    ensures { λ r. ⌜ Turned (Grouping (now (masks .entry)) (now (group .entry)) (now (lowest .entry))) (now (masks .entry)) (now (rows .entry)) (now (lens .entry)) (now (sets .entry)) (now (ends .entry)) s q c n slots (now (table .entry)) r (now (table .exit)) ⌝ }
+    ensures { λ r. ⌜ Turned (Grouping (now (masks .entry)) (now (group .entry)) (now (lowest .entry))) (arrays (now (masks .entry)) (now (rows .entry)) (now (lens .entry)) (now (sets .entry)) (now (ends .entry))) s q c n slots (now (table .entry)) r (now (table .exit)) ⌝ }
 {
     if leads(c, group, lowest) {
         return carry(table, s, q, c, n, slots, masks, rows, lens, sets, ends);
@@ -121,7 +122,7 @@ fn work<'a>(
     sets: &'a [u64; 65],
     ends: &'a [u8; 65],
 ) -> Progress
-    ensures { λ r. ⌜ Worked (Grouping (now (masks .entry)) (now (group .entry)) (now (lowest .entry))) (now (masks .entry)) (now (rows .entry)) (now (lens .entry)) (now (sets .entry)) (now (ends .entry)) q n slots (now (table .entry)) r (now (table .exit)) ⌝ }
+    ensures { λ r. ⌜ Worked (Grouping (now (masks .entry)) (now (group .entry)) (now (lowest .entry))) (arrays (now (masks .entry)) (now (rows .entry)) (now (lens .entry)) (now (sets .entry)) (now (ends .entry))) q n slots (now (table .entry)) r (now (table .exit)) ⌝ }
 {
     let s = records::unpack(table::load(table, q));
     let mut n = n;
@@ -164,7 +165,7 @@ fn run<'a>(
     ends: &'a [u8; 65],
 ) -> Progress
     requires { ⌜ (0 < slots) × (slots ≤ 65535) ⌝ }
-    ensures { λ r. ⌜ Run (Grouping (now (masks .entry)) (now (group .entry)) (now (lowest .entry))) (now (masks .entry)) (now (rows .entry)) (now (lens .entry)) (now (sets .entry)) (now (ends .entry)) slots (now (table .entry)) r (now (table .exit)) ⌝ }
+    ensures { λ r. ⌜ Run (Grouping (now (masks .entry)) (now (group .entry)) (now (lowest .entry))) (arrays (now (masks .entry)) (now (rows .entry)) (now (lens .entry)) (now (sets .entry)) (now (ends .entry))) slots (now (table .entry)) r (now (table .exit)) ⌝ }
 {
     let mut n = 1;
     let mut q = 0;
@@ -200,7 +201,7 @@ pub fn search<'a>(
     sets: &'a [u64; 65],
     ends: &'a [u8; 65],
 ) -> Progress
-    ensures searched { λ r. ⌜ Searched (now (masks .entry)) (now (rows .entry)) (now (lens .entry)) (now (sets .entry)) (now (ends .entry)) (now (table .entry)) r (now (table .exit)) ⌝ }
+    ensures searched { λ r. ⌜ Searched (arrays (now (masks .entry)) (now (rows .entry)) (now (lens .entry)) (now (sets .entry)) (now (ends .entry))) (now (table .entry)) r (now (table .exit)) ⌝ }
 {
     let slots = slots_of(table.len());
     if slots == 0 {

@@ -23,7 +23,7 @@ use Rattle.theory.proofs.Closure.{closure-right, gather-once, next-moves, membe
 use Rattle.arrays.specs.Decoded.{hasBit}
 use Rattle.standing.specs.declared.Standing.{Standing}
 use Rattle.standing.specs.declared.Wants.{Wants}
-use Rattle.standing.specs.Stands.{means, Lent, Fine}
+use Rattle.standing.specs.Stands.{means, Arrays, Lent, Fine, Stands}
 use Rattle.standing.specs.Reads.{Gathered, order, leaves, Fronts, rowOf, after}
 use Rattle.standing.specs.Sets.{Small, goes, Wanted, United}
 use Rattle.arrays.proofs.Bits.{no-bit}
@@ -65,8 +65,8 @@ module _ (r : Re) (most : count r ≤ 64) (l m : List ℕ) (inner : Within (coun
       let every : filter (hasBit all) (from 0 (count r)) ≡ filter (λ p. member (suc p) m) (from 0 (count r)) = filter-cut _ _ 0 (count r) λ p h. b .bits p (omega arith) in
       λ i. record { order = gathered i; first = a .ended i; all = every i; some = b .ended i }
 
-  pub made-right : (s : Theory.Standing) → shown (count r) l m ≡ s → Fine r (made f all some) × (means (count r) (made f all some) ≡ s)
-  made-right s e = (made-fine, made-means ∙ e)
+  pub made-right : (s : Theory.Standing) → shown (count r) l m ≡ s → Stands r (made f all some) s
+  made-right s e = record { fine = made-fine; is = made-means ∙ e }
 
 -- The flag of a row.
 flag-is : (x : ℕ) (e : Bool) → x ≤ 1 → (x ≡ 1 → e ≡ true) → (x ≡ 0 → e ≡ false) → eqb x 1 ≡ e
@@ -74,8 +74,8 @@ flag-is zero e h a b = sym (b refl)
 flag-is (suc zero) e h a b = sym (a refl)
 flag-is (suc (suc x)) e h a b = absurd (omega arith)
 
-module _ (masks rows lens sets flags : List ℕ) (r : Re) (d : Lent r masks rows lens sets flags) where
-  row-end : (k : ℕ) → k ≤ count r → eqb (getD flags k 0) 1 ≡ member 0 (rowOf rows lens k)
+module _ {a : Arrays} {r : Re} (d : Lent r a) where
+  row-end : (k : ℕ) → k ≤ count r → eqb (getD (a .ends) k 0) 1 ≡ member 0 (rowOf (a .rows) (a .lens) k)
   row-end k h = let s = d .follows .summed k h in flag-is _ _ (s .flag) (s .end) (s .no-end)
 
   -- The first standing.
@@ -88,25 +88,25 @@ module _ (masks rows lens sets flags : List ℕ) (r : Re) (d : Lent r masks rows
       filter-same _ _ (from 0 (count r)) λ p. rw (closure-right r, gather-member (suc p) [] (items (start r))) (member-wants p (start r)) in
       λ i. record { order = o i; first = e i; all = a i; some = e i })
 
-  start-shows : (x : ℕ) → United 0 (getD sets 0 0) x → Shows (rowOf rows lens 0) x (eqb (getD flags 0 0) 1)
+  start-shows : (x : ℕ) → United 0 (getD (a .sets) 0 0) x → Shows (rowOf (a .rows) (a .lens) 0) x (eqb (getD (a .ends) 0 0) 1)
   start-shows x u = record {
     bits = λ q h. u .bits q ∙ rw (no-bit q) (d .follows .summed 0 (omega arith) .set q h);
     small = u .small;
     ended = row-end 0 (omega arith);
   }
 
-  pub first-right : (f : Gathered) (x : ℕ) → Fronts (rowOf rows lens 0) f → United 0 (getD sets 0 0) x
-      → Fine r (made f x (eqb (getD flags 0 0) 1)) × (means (count r) (made f x (eqb (getD flags 0 0) 1)) ≡ standing r [])
-  first-right f x a u =
-      let w : Within (count r) (rowOf rows lens 0) = rw (d .follows .start) (closure-within r (d .numbered)) in
-      made-right r (d .most) (rowOf rows lens 0) (rowOf rows lens 0) w w f x (eqb (getD flags 0 0) 1) a (start-shows x u) (standing r []) (rw (d .follows .start) start-shown)
+  pub first-right : (f : Gathered) (x : ℕ) → Fronts (rowOf (a .rows) (a .lens) 0) f → United 0 (getD (a .sets) 0 0) x
+      → Stands r (made f x (eqb (getD (a .ends) 0 0) 1)) (standing r [])
+  first-right f x g u =
+      let w : Within (count r) (rowOf (a .rows) (a .lens) 0) = rw (d .follows .start) (closure-within r (d .numbered)) in
+      made-right r (d .most) (rowOf (a .rows) (a .lens) 0) (rowOf (a .rows) (a .lens) 0) w w f x (eqb (getD (a .ends) 0 0) 1) g (start-shows x u) (standing r []) (rw (d .follows .start) start-shown)
 
   -- The next standing.
   module _ (b : ℕ) (byte : b < 256) where
-    after-takes : (p : ℕ) → p < count r → after (getD masks b 0) rows lens p ≡ takes r b p
+    after-takes : (p : ℕ) → p < count r → after (getD (a .masks) b 0) (a .rows) (a .lens) p ≡ takes r b p
     after-takes p h = rw (lt-ltb p 64 (omega (arith, d .most)), d .masked b p byte h, d .follows .after p h)
 
-    flat-takes : (l : List ℕ) → ((p : ℕ) → T (member p l) → p < count r) → flat (after (getD masks b 0) rows lens) l ≡ flat (takes r b) l
+    flat-takes : (l : List ℕ) → ((p : ℕ) → T (member p l) → p < count r) → flat (after (getD (a .masks) b 0) (a .rows) (a .lens)) l ≡ flat (takes r b) l
     flat-takes [] h = refl
     flat-takes (p ∷ l) h = rw (after-takes p (h p (or-left (eqb p p) (member p l) (eqb-refl p))), flat-takes l λ q t. h q (or-right (eqb q p) (member q l) t))
 
@@ -124,10 +124,10 @@ module _ (masks rows lens sets flags : List ℕ) (r : Re) (d : Lent r masks rows
 
     module _ (set : ℕ) (fine : (p : ℕ) → count r ≤ p → hasBit set p ≡ false) where
       -- A test of the row of each leaf of the set that takes the byte.
-      each : (x : ℕ) (g : ℕ → Bool) → ((p : ℕ) → p < count r → g p ≡ member x (rowOf rows lens (suc p)))
-          → any (λ p. goes set (getD masks b 0) p && g p) (from 0 64) ≡ member x (flat (takes r b) (filter (hasBit set) (from 0 (count r))))
+      each : (x : ℕ) (g : ℕ → Bool) → ((p : ℕ) → p < count r → g p ≡ member x (rowOf (a .rows) (a .lens) (suc p)))
+          → any (λ p. goes set (getD (a .masks) b 0) p && g p) (from 0 64) ≡ member x (flat (takes r b) (filter (hasBit set) (from 0 (count r))))
       each x g h =
-          any-cut (λ p. goes set (getD masks b 0) p && g p) (λ p. hasBit set p && member x (takes r b p)) (count r) 64 (d .most)
+          any-cut (λ p. goes set (getD (a .masks) b 0) p && g p) (λ p. hasBit set p && member x (takes r b p)) (count r) 64 (d .most)
           (λ p k. rw (h p k, d .masked b p byte k, d .follows .after p k) (go p (hasBit set p) (has r p b)))
           (λ p k. rw (fine p k))
           ∙ sym (member-flat x (takes r b) (filter (hasBit set) (from 0 (count r))) ∙ any-filter (hasBit set) (λ p. member x (takes r b p)) (from 0 (count r)))
@@ -137,19 +137,20 @@ module _ (masks rows lens sets flags : List ℕ) (r : Re) (d : Lent r masks rows
           go p true true = refl
           go p true false = refl
 
-      next-shows : (w : Wants) → Wanted (goes set (getD masks b 0)) sets flags w → Shows (flat (takes r b) (filter (hasBit set) (from 0 (count r)))) (w .all) (w .some)
-      next-shows w a = record {
-        bits = λ q h. a .all q ∙ each (suc q) (λ p. hasBit (getD sets (suc p) 0) q) (λ p k. d .follows .summed (suc p) (omega arith) .set q h);
-        small = a .small;
-        ended = a .some ∙ each 0 (λ p. eqb (getD flags (suc p) 0) 1) (λ p k. row-end (suc p) (omega arith));
+      next-shows : (w : Wants) → Wanted (goes set (getD (a .masks) b 0)) (a .sets) (a .ends) w → Shows (flat (takes r b) (filter (hasBit set) (from 0 (count r)))) (w .all) (w .some)
+      next-shows w g = record {
+        bits = λ q h. g .all q ∙ each (suc q) (λ p. hasBit (getD (a .sets) (suc p) 0) q) (λ p k. d .follows .summed (suc p) (omega arith) .set q h);
+        small = g .small;
+        ended = g .some ∙ each 0 (λ p. eqb (getD (a .ends) (suc p) 0) 1) (λ p k. row-end (suc p) (omega arith));
       }
 
-    pub next-right : (s : Standing) → Fine r s → (f : Gathered) (w : Wants) → Fronts (flat (after (getD masks b 0) rows lens) (take (min (s .n) 64) (s .list))) f
-        → Wanted (goes (s .all) (getD masks b 0)) sets flags w → Fine r (made f (w .all) (w .some)) × (means (count r) (made f (w .all) (w .some)) ≡ next r (means (count r) s) b)
-    next-right s fine f w a c =
+    pub next-right : (s : Standing) {z : Theory.Standing} → Stands r s z → (f : Gathered) (w : Wants) → Fronts (flat (after (getD (a .masks) b 0) (a .rows) (a .lens)) (take (min (s .n) 64) (s .list))) f
+        → Wanted (goes (s .all) (getD (a .masks) b 0)) (a .sets) (a .ends) w → Stands r (made f (w .all) (w .some)) (next r z b)
+    next-right s stands f w g c =
+        let fine = stands .fine in
         let e : min (s .n) 64 ≡ s .n = omega (arith, fine .size) in
         let l = take (s .n) (s .list) in
         let m = filter (hasBit (s .all)) (from 0 (count r)) in
-        let o : Fronts (flat (takes r b) l) f = rw (e, flat-takes l (fine .leaves)) at a in
+        let o : Fronts (flat (takes r b) l) f = rw (e, flat-takes l (fine .leaves)) at g in
         made-right r (d .most) (flat (takes r b) l) (flat (takes r b) m) (flat-within r (d .numbered) b l) (flat-within r (d .numbered) b m) f (w .all) (w .some) o
-        (next-shows (s .all) (fine .set) w c) (next r (means (count r) s) b) (next-shown (means (count r) s))
+        (next-shows (s .all) (fine .set) w c) _ (next-shown (means (count r) s) ∙ ap (λ x. next r x b) (stands .is))

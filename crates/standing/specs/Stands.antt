@@ -20,13 +20,24 @@ use Rattle.standing.specs.declared.Standing.{Standing}
 abbrev pub means : ℕ → Standing → Theory.Standing
 means c s = record { order = take (s .n) (s .list); first = s .first; all = filter (hasBit (s .all)) (from 0 c); some = s .some }
 
--- The lent arrays are those of the pattern r: the follow tables, and bit p of the mask of a byte for the leaf p.
-pub record Lent (r : Re) (masks rows lens sets ends : List ℕ) : Type 0 where
+-- The arrays that are lent for a pattern: the masks of the bytes, and the follow tables.
+pub record Arrays : Type 0 where
+  pub masks : List ℕ
+  pub rows : List ℕ
+  pub lens : List ℕ
+  pub sets : List ℕ
+  pub ends : List ℕ
+
+abbrev pub arrays : List ℕ → List ℕ → List ℕ → List ℕ → List ℕ → Arrays
+arrays masks rows lens sets ends = record { masks = masks; rows = rows; lens = lens; sets = sets; ends = ends }
+
+-- They are those of the pattern r: the follow tables, and bit p of the mask of a byte for the leaf p.
+pub record Lent (r : Re) (a : Arrays) : Type 0 where
   pub numbered : Numbered 0 r
   pub most : count r ≤ 64
-  pub follows : Follows r (record { rows = rows; lens = lens; sets = sets; ends = ends })
-  pub masked : (b p : ℕ) → b < 256 → p < count r → hasBit (getD masks b 0) p ≡ has r p b
-  pub spare : (b p : ℕ) → b < 256 → count r ≤ p → hasBit (getD masks b 0) p ≡ false
+  pub follows : Follows r (record { rows = a .rows; lens = a .lens; sets = a .sets; ends = a .ends })
+  pub masked : (b p : ℕ) → b < 256 → p < count r → hasBit (getD (a .masks) b 0) p ≡ has r p b
+  pub spare : (b p : ℕ) → b < 256 → count r ≤ p → hasBit (getD (a .masks) b 0) p ≡ false
 
 -- A standing of the pattern r: (a) has leaves of r, each once, and (c) no other.
 pub record Fine (r : Re) (s : Standing) : Type 0 where
@@ -35,10 +46,15 @@ pub record Fine (r : Re) (s : Standing) : Type 0 where
   pub once : Once (take (s .n) (s .list))
   pub set : (p : ℕ) → count r ≤ p → hasBit (s .all) p ≡ false
 
+-- s is the standing t of the pattern r.
+pub record Stands (r : Re) (s : Standing) (t : Theory.Standing) : Type 0 where
+  pub fine : Fine r s
+  pub is : means (count r) s ≡ t
+
 -- The first standing, for the pattern whose arrays are lent.
-abbrev pub First : List ℕ → List ℕ → List ℕ → List ℕ → List ℕ → Standing → Type 0
-First masks rows lens sets ends s = (r : Re) → Lent r masks rows lens sets ends → Fine r s × (means (count r) s ≡ standing r [])
+pub record First (a : Arrays) (s : Standing) : Type 0 where
+  pub stands : {r : Re} → Lent r a → Stands r s (standing r [])
 
 -- "Each byte carries a standing to the next standing."
-abbrev pub Carried : List ℕ → List ℕ → List ℕ → List ℕ → List ℕ → Standing → ℕ → Standing → Type 0
-Carried masks rows lens sets ends s b s′ = (r : Re) → Lent r masks rows lens sets ends → Fine r s → Fine r s′ × (means (count r) s′ ≡ next r (means (count r) s) b)
+pub record Carried (a : Arrays) (s : Standing) (b : ℕ) (s′ : Standing) : Type 0 where
+  pub stands : {r : Re} {t : Theory.Standing} → Lent r a → Stands r s t → Stands r s′ (next r t b)

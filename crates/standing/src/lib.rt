@@ -8,7 +8,7 @@ ghost use lib.ListN.{length, getD, take};
 ghost use lib.Dec.{eqb};
 ghost use Rattle.theory.specs.Code.Closure.{flat};
 ghost use Rattle.arrays.specs.Decoded.{hasBit};
-ghost use Rattle.standing.specs.Stands.{First, Carried};
+ghost use Rattle.standing.specs.Stands.{arrays, First, Carried};
 ghost use Rattle.standing.specs.Reads.{gathered, Sound, Read, Fronts, Blank, rowOf, after};
 ghost use Rattle.standing.specs.Sets.{United, Parted, goes, Joined, Wanted};
 
@@ -242,7 +242,7 @@ impl Standing {
         sets: &'a [u64; 65],
         ends: &'a [u8; 65],
     ) -> Standing
-        ensures first { λ r. ⌜ First (now (masks .entry)) (now (rows .entry)) (now (lens .entry)) (now (sets .entry)) (now (ends .entry)) r ⌝ }
+        ensures first { λ r. ⌜ First (arrays (now (masks .entry)) (now (rows .entry)) (now (lens .entry)) (now (sets .entry)) (now (ends .entry))) r ⌝ }
     {
         let mut list = [0u8; 64];
         let front = Front::empty().read_row(0, rows, lens, &mut list);
@@ -265,7 +265,7 @@ impl Standing {
         sets: &'a [u64; 65],
         ends: &'a [u8; 65],
     ) -> Standing
-        ensures next { λ r. ⌜ Carried (now (masks .entry)) (now (rows .entry)) (now (lens .entry)) (now (sets .entry)) (now (ends .entry)) self byte r ⌝ }
+        ensures next { λ r. ⌜ Carried (arrays (now (masks .entry)) (now (rows .entry)) (now (lens .entry)) (now (sets .entry)) (now (ends .entry))) self byte r ⌝ }
     {
         let mask = masks[wide(byte)];
         let mut list = [0u8; 64];

@@ -15,8 +15,9 @@ use Rattle.theory.specs.Code.Follow.{follow, after, hasEnd}
 use Rattle.theory.specs.Code.Next.{afters, next}
 use Rattle.theory.proofs.Extend.{has-beyond}
 use Rattle.theory.proofs.Step.{step}
-use Rattle.theory.proofs.Search.{known, tried}
-use Rattle.theory.proofs.Records.{carries, Search}
+use Rattle.theory.specs.Code.Search.{known, Search}
+use Rattle.theory.proofs.Search.{tried}
+use Rattle.theory.proofs.Records.{carries}
 
 pub same-group : (r : Re) → Numbered 0 r → (b c : ℕ) → SameGroup r b c → (s : Standing) → next r s b ≡ next r s c
 unfolding next
@@ -37,7 +38,7 @@ module _ (r : Re) (d : Numbered 0 r) where
   group-carries b c g u = step r d u b ∙ same-group r d b c g (standing r u) ∙ sym (step r d u c)
 
   -- so the turn of the later one adds nothing.
-  pub pass-over : {L : List (List ℕ)} {q c : ℕ} → Search r d L q c → q < length L → c < 256 → (b : ℕ) → b < c → SameGroup r b c → Search r d L q (suc c)
+  pub pass-over : {L : List (List ℕ)} {q c : ℕ} → Search r L q c → q < length L → c < 256 → (b : ℕ) → b < c → SameGroup r b c → Search r L q (suc c)
   pass-over {L} {q} {c} t h i b l g =
       let (k, m, e, o) = tried (standing r) (carries r d) 256 t q b (inr (refl, l)) h (omega arith) in
       known t h i k m (e ∙ group-carries b c g (at L q))

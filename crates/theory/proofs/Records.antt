@@ -13,11 +13,12 @@ use Rattle.theory.specs.Standing.{standing, isWitness}
 use Rattle.theory.specs.Code.Next.{next}
 use Rattle.theory.specs.Spans.{Span-discrete, greedy, posix, CutDifferently}
 use Rattle.theory.specs.Lines.{Below, _≺_}
+use Rattle.theory.specs.Code.Search.{Search}
 use Rattle.theory.specs.Records.{at, Records, Complete, Alike, Unlike}
 use Rattle.theory.proofs.Tests.{either}
 use Rattle.theory.proofs.Step.{step}
 use Rattle.theory.proofs.Cut.{witness-cut, cut-witness}
-use Rattle.theory.proofs.Search.{Trace, in-order, distinct, all-covered, trace-bytes}
+use Rattle.theory.proofs.Search.{in-order, distinct, all-covered, trace-bytes}
 use Rattle.theory.proofs.Lines.{bytes, ≺-total, below-left, below-right}
 
 module _ (r : Re) (d : Numbered 0 r) where
@@ -25,12 +26,8 @@ module _ (r : Re) (d : Numbered 0 r) where
   pub carries : (u v : List ℕ) (b : ℕ) → standing r u ≡ standing r v → standing r (u ++ (b ∷ [])) ≡ standing r (v ++ (b ∷ []))
   carries u v b e = step r d u b ∙ ap (λ s. next r s b) e ∙ sym (step r d v b)
 
-  -- The search over this pattern's standings.
-  abbrev pub Search : List (List ℕ) → ℕ → ℕ → Type 0
-  Search L q c = Trace (standing r) carries 256 L q c
-
-  -- It finds the records,
-  pub search-records : {L : List (List ℕ)} {q c : ℕ} → Search L q c → Records r L
+  -- The search finds the records,
+  pub search-records : {L : List (List ℕ)} {q c : ℕ} → Search r L q c → Records r L
   search-records t =
       record {
         bytes = λ k l. trace-bytes (standing r) carries 256 t k l;
@@ -39,7 +36,7 @@ module _ (r : Re) (d : Numbered 0 r) where
       }
 
   -- and all of them, if it ends.
-  pub search-complete : {L : List (List ℕ)} → Search L (length L) 0 → Complete r L
+  pub search-complete : {L : List (List ℕ)} → Search r L (length L) 0 → Complete r L
   search-complete t v h = let (k, l, e, o) = all-covered (standing r) carries 256 t (bytes 256 v h) in (k, l, e)
 
   -- NO LINE IS CUT DIFFERENTLY, if the records are complete and none is a witness's.

@@ -14,12 +14,12 @@ use Rattle.theory.specs.Code.Follow.{start, hasEnd}
 use Rattle.theory.specs.Standing.{Standing, standing, isWitness}
 use Rattle.theory.specs.Code.Next.{next}
 use Rattle.theory.specs.Records.{at}
-use Rattle.theory.specs.Code.Search.{SearchEnd, alike, unlike, full}
+use Rattle.theory.specs.Code.Search.{begin, known, new, turn, Search, SearchEnd, alike, unlike, full}
 use Rattle.theory.proofs.Tests.{true-T, T-true}
 use Rattle.theory.proofs.Step.{step, step-start}
-use Rattle.theory.proofs.Search.{begin, known, new, turn, trace-bytes, trace-place}
+use Rattle.theory.proofs.Search.{trace-bytes, trace-place}
 use Rattle.theory.proofs.Lines.{snoc-size, snoc-each, snoc-old, snoc-last, below-snoc}
-use Rattle.theory.proofs.Records.{carries, Search, search-records, search-complete}
+use Rattle.theory.proofs.Records.{carries, search-records, search-complete}
 
 unfoldable pub list-dec : (l m : List ℕ) → Dec (l ≡ m)
 list-dec [] [] = yes refl
@@ -80,7 +80,7 @@ module _ (r : Re) where
       ]
 
 module _ (r : Re) (d : Numbered 0 r) (slots : ℕ) where
-  unfoldable pub run : (f : ℕ) {L : List (List ℕ)} {S : List Standing} {q c : ℕ} → Search r d L q c → Stands r L S → ((k : ℕ) → k < length L → T (isWitness (standing r (at L k))) → ⊥)
+  unfoldable pub run : (f : ℕ) {L : List (List ℕ)} {S : List Standing} {q c : ℕ} → Search r L q c → Stands r L S → ((k : ℕ) → k < length L → T (isWitness (standing r (at L k))) → ⊥)
       → length L ≤ slots → c ≤ 256 → 257 * (slots - q) + (256 - c) < f → SearchEnd r slots
   run zero t p x y z g = absurd (omega arith)
   run (suc f) {L} {S} {q} {c} t p x y z g =
@@ -91,7 +91,7 @@ module _ (r : Re) (d : Numbered 0 r) (slots : ℕ) where
           none = x;
         })
         | yes h ↦ elim (decLt c 256) [
-          | no i ↦ (let e : c ≡ 256 = omega arith in run f (turn (subst (λ a. Search r d L q a) e t) h) p x y (omega arith) (omega arith))
+          | no i ↦ (let e : c ≡ 256 = omega arith in run f (turn (subst (λ a. Search r L q a) e t) h) p x y (omega arith) (omega arith))
           | yes i ↦
               (let s = next r (getD S q (standing r [])) c in
               let e : standing r (at L q ++ (c ∷ [])) ≡ s = step r d (at L q) c ∙ ap (λ a. next r a c) (stands-at r (standing r []) p q h) in
@@ -118,9 +118,9 @@ module _ (r : Re) (d : Numbered 0 r) (slots : ℕ) where
         ]
       ]
     where
-      ended : ¬ (q < length L) → (q < length L) ⊎ ((q ≡ length L) × (c ≡ 0)) → Search r d L (length L) 0
+      ended : ¬ (q < length L) → (q < length L) ⊎ ((q ≡ length L) × (c ≡ 0)) → Search r L (length L) 0
       ended h (inl a) = absurd (h a)
-      ended h (inr a) = subst (λ b. Search r d L b 0) (a .0) (subst (λ b. Search r d L q b) (a .1) t)
+      ended h (inr a) = subst (λ b. Search r L b 0) (a .0) (subst (λ b. Search r L q b) (a .1) t)
 
       none-new : {s : Standing} → standing r (at L q ++ (c ∷ [])) ≡ s → ¬ (isWitness s ≡ true)
           → (k : ℕ) → k < length (L ++ ((at L q ++ (c ∷ [])) ∷ [])) → T (isWitness (standing r (at (L ++ ((at L q ++ (c ∷ [])) ∷ [])) k))) → ⊥

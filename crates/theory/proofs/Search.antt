@@ -10,6 +10,7 @@ use native.Mathlib.Decide.{decLt}
 use lib.ListN.{length}
 use Rattle.theory.specs.Lines.{Below, _≺_}
 use Rattle.theory.specs.Records.{at}
+use Rattle.theory.specs.Code.Search.{Trace, begin, known, new, turn}
 use Rattle.theory.proofs.Tests.{either}
 use Rattle.theory.proofs.Lines.{_≼_, ≺-irrefl, ≺-trans, ≺-snoc, ≺-last, ≺-self, ≺-empty, ≼-snoc, ≼-≺, ≼-trans, Bytes, nil, snoc, below-snoc, snoc-size, snoc-old, snoc-last, snoc-each}
 
@@ -34,21 +35,13 @@ earlier-split (inl h) = inl (inl h)
 earlier-split {b = b} {c = c} (inr h) = elim (decLt b c) [ yes g ↦ inl (inr (h .0, g)) | no g ↦ inr (omega arith) ]
 
 module _ {S : Type 0} (stand : List ℕ → S) (carries : (u v : List ℕ) (b : ℕ) → stand u ≡ stand v → stand (u ++ (b ∷ [])) ≡ stand (v ++ (b ∷ []))) (n : ℕ) where
-  -- The search has found the lines L. It has tried the lines before line q with each byte below n, and line q with the bytes below c.
-  pub data Trace : List (List ℕ) → ℕ → ℕ → Type 0 where
-    begin : Trace ([] ∷ []) 0 0
-    known : {L : List (List ℕ)} {q c : ℕ} → Trace L q c → q < length L → c < n → (k : ℕ) → k < length L → stand (at L k) ≡ stand (at L q ++ (c ∷ [])) → Trace L q (suc c)
-    new : {L : List (List ℕ)} {q c : ℕ} → Trace L q c → q < length L → c < n → ((k : ℕ) → k < length L → stand (at L k) ≢ stand (at L q ++ (c ∷ [])))
-        → Trace (L ++ ((at L q ++ (c ∷ [])) ∷ [])) q (suc c)
-    turn : {L : List (List ℕ)} {q : ℕ} → Trace L q n → q < length L → Trace L (suc q) 0
-
-  trace-size : {L : List (List ℕ)} {q c : ℕ} → Trace L q c → (0 < length L) × (q ≤ length L)
+  trace-size : {L : List (List ℕ)} {q c : ℕ} → Trace stand n L q c → (0 < length L) × (q ≤ length L)
   trace-size begin = omega arith
   trace-size (known t h g k i e) = trace-size t
   trace-size (new {L = L} {q = q} {c = c} t h g e) = omega (arith, snoc-size L (at L q ++ (c ∷ [])))
   trace-size (turn t h) = let c = trace-size t in omega arith
 
-  trace-zero : {L : List (List ℕ)} {q c : ℕ} → Trace L q c → at L 0 ≡ []
+  trace-zero : {L : List (List ℕ)} {q c : ℕ} → Trace stand n L q c → at L 0 ≡ []
   trace-zero begin = refl
   trace-zero (known t h g k i e) = trace-zero t
   trace-zero (new {L = L} {q = q} {c = c} t h g e) = snoc-old L (at L q ++ (c ∷ [])) 0 (trace-size t .0) ∙ trace-zero t
@@ -58,7 +51,7 @@ module _ {S : Type 0} (stand : List ℕ → S) (carries : (u v : List ℕ) (b : 
   abbrev pub Origin : List (List ℕ) → ℕ → ℕ → ℕ → Type 0
   Origin L q c k = (j b : ℕ) × Earlier j b q c × (j < length L) × (b < n) × (at L k ≡ at L j ++ (b ∷ []))
 
-  pub origin : {L : List (List ℕ)} {q c : ℕ} → Trace L q c → (k : ℕ) → 0 < k → k < length L → Origin L q c k
+  pub origin : {L : List (List ℕ)} {q c : ℕ} → Trace stand n L q c → (k : ℕ) → 0 < k → k < length L → Origin L q c k
   origin begin k p h = absurd (omega arith)
   origin (known t h g m i e) k p l = let (j, b, a, x, y, z) = origin t k p l in (j, b, earlier-next a, x, y, z)
   origin (new {L = L} {q = q} {c = c} t h g e) k p l =
@@ -70,7 +63,7 @@ module _ {S : Type 0} (stand : List ℕ → S) (carries : (u v : List ℕ) (b : 
   origin (turn t h) k p l = let (j, b, a, x, y, z) = origin t k p l in (j, b, earlier-turn a, x, y, z)
 
   -- Each line found comes before the one that is tried next, if the lines found so far stand in their order.
-  module _ {L : List (List ℕ)} {q c : ℕ} (t : Trace L q c) (h : q < length L) (up : (j k : ℕ) → j < k → k < length L → at L j ≺ at L k) where
+  module _ {L : List (List ℕ)} {q c : ℕ} (t : Trace stand n L q c) (h : q < length L) (up : (j k : ℕ) → j < k → k < length L → at L j ≺ at L k) where
     pub before-next : (k : ℕ) → k < length L → at L k ≺ at L q ++ (c ∷ [])
     before-next zero l = rw (trace-zero t) (≺-empty (at L q) c)
     before-next (suc k) l = let (j, b, a, x, y, z) = origin t (suc k) (omega arith) l in rw z (go j b a)
@@ -80,7 +73,7 @@ module _ {S : Type 0} (stand : List ℕ → S) (carries : (u v : List ℕ) (b : 
         go j b (inr g) = rw (g .0) (≺-last (at L q) b c (g .1))
 
   -- THE LINES FOUND STAND IN THEIR ORDER.
-  pub increasing : {L : List (List ℕ)} {q c : ℕ} → Trace L q c → (j k : ℕ) → j < k → k < length L → at L j ≺ at L k
+  pub increasing : {L : List (List ℕ)} {q c : ℕ} → Trace stand n L q c → (j k : ℕ) → j < k → k < length L → at L j ≺ at L k
   increasing begin j k i l = absurd (omega arith)
   increasing (known t h g m o e) j k i l = increasing t j k i l
   increasing (new {L = L} {q = q} {c = c} t h g e) j k i l =
@@ -91,7 +84,7 @@ module _ {S : Type 0} (stand : List ℕ → S) (carries : (u v : List ℕ) (b : 
   increasing (turn t h) j k i l = increasing t j k i l
 
   -- THEIR STANDINGS ARE DISTINCT.
-  pub distinct : {L : List (List ℕ)} {q c : ℕ} → Trace L q c → (j k : ℕ) → j < k → k < length L → stand (at L j) ≢ stand (at L k)
+  pub distinct : {L : List (List ℕ)} {q c : ℕ} → Trace stand n L q c → (j k : ℕ) → j < k → k < length L → stand (at L j) ≢ stand (at L k)
   distinct begin j k i l = absurd (omega arith)
   distinct (known t h g m o e) j k i l = distinct t j k i l
   distinct (new {L = L} {q = q} {c = c} t h g e) j k i l =
@@ -109,7 +102,7 @@ module _ {S : Type 0} (stand : List ℕ → S) (carries : (u v : List ℕ) (b : 
   covered-add L x v (k, l, e, o) = (k, omega (arith, snoc-size L x), rw (snoc-old L x k l) e, rw (snoc-old L x k l) o)
 
   -- What was tried is covered.
-  pub tried : {L : List (List ℕ)} {q c : ℕ} → Trace L q c → (j b : ℕ) → Earlier j b q c → j < length L → b < n → Covered L (at L j ++ (b ∷ []))
+  pub tried : {L : List (List ℕ)} {q c : ℕ} → Trace stand n L q c → (j b : ℕ) → Earlier j b q c → j < length L → b < n → Covered L (at L j ++ (b ∷ []))
   tried begin j b (inl a) h g = absurd (omega arith)
   tried begin j b (inr a) h g = absurd (omega arith)
   tried (known {L = L} {q = q} {c = c} t h g k i e) j b a l m =
@@ -133,7 +126,7 @@ module _ {S : Type 0} (stand : List ℕ → S) (carries : (u v : List ℕ) (b : 
       go (inr f) = absurd (omega arith)
 
   -- EACH LINE BEFORE THE ONE TRIED NEXT IS COVERED.
-  pub covered : {L : List (List ℕ)} {q c : ℕ} → Trace L q c → q < length L → {v : List ℕ} → Bytes n v → v ≺ at L q ++ (c ∷ []) → Covered L v
+  pub covered : {L : List (List ℕ)} {q c : ℕ} → Trace stand n L q c → q < length L → {v : List ℕ} → Bytes n v → v ≺ at L q ++ (c ∷ []) → Covered L v
   covered {L} {q} {c} t h nil o = (0, trace-size t .0, ap stand (trace-zero t), inl (trace-zero t))
   covered {L} {q} {c} t h (snoc {u = u} {b = b} m g) o =
       let (j, l, e, p) = covered t h m (≺-trans u (u ++ (b ∷ [])) (at L q ++ (c ∷ [])) (≺-self u b) o) in
@@ -163,7 +156,7 @@ module _ {S : Type 0} (stand : List ℕ → S) (carries : (u v : List ℕ) (b : 
           ]
 
   -- WHEN ALL IS TRIED, EVERY LINE IS COVERED.
-  pub all-covered : {L : List (List ℕ)} → Trace L (length L) 0 → {v : List ℕ} → Bytes n v → Covered L v
+  pub all-covered : {L : List (List ℕ)} → Trace stand n L (length L) 0 → {v : List ℕ} → Bytes n v → Covered L v
   all-covered {L} t nil = (0, trace-size t .0, ap stand (trace-zero t), inl (trace-zero t))
   all-covered {L} t (snoc {u = u} {b = b} m g) =
       let (j, l, e, p) = all-covered t m in
@@ -171,7 +164,7 @@ module _ {S : Type 0} (stand : List ℕ → S) (carries : (u v : List ℕ) (b : 
       (k, i, d ∙ carries (at L j) u b e, ≼-trans (at L k) (at L j ++ (b ∷ [])) (u ++ (b ∷ [])) r (≼-snoc (at L j) u b p))
 
   -- A line found is the first with its standing.
-  first-of : {L : List (List ℕ)} {q c : ℕ} → Trace L q c → (v : List ℕ) → Covered L v → (k : ℕ) → k < length L → stand v ≡ stand (at L k) → at L k ≼ v
+  first-of : {L : List (List ℕ)} {q c : ℕ} → Trace stand n L q c → (v : List ℕ) → Covered L v → (k : ℕ) → k < length L → stand v ≡ stand (at L k) → at L k ≼ v
   first-of {L} t v (j, i, e, p) k l d =
       elim (decLt j k) [
         | yes a ↦ absurd (distinct t j k a l (e ∙ d))
@@ -182,7 +175,7 @@ module _ {S : Type 0} (stand : List ℕ → S) (carries : (u v : List ℕ) (b : 
       ]
 
   -- A line that is covered and comes before a line found has the standing of an earlier one.
-  earlier-of : {L : List (List ℕ)} {q c : ℕ} → Trace L q c → (v : List ℕ) → Covered L v → (k : ℕ) → k < length L → v ≺ at L k → (j : ℕ) × (j < k) × (stand (at L j) ≡ stand v)
+  earlier-of : {L : List (List ℕ)} {q c : ℕ} → Trace stand n L q c → (v : List ℕ) → Covered L v → (k : ℕ) → k < length L → v ≺ at L k → (j : ℕ) × (j < k) × (stand (at L j) ≡ stand v)
   earlier-of {L} t v (j, i, e, p) k l o = (j, go (≼-≺ (at L j) v (at L k) p o), e)
     where
       go : at L j ≺ at L k → j < k
@@ -195,22 +188,22 @@ module _ {S : Type 0} (stand : List ℕ → S) (carries : (u v : List ℕ) (b : 
             ]
           ]
 
-  pub trace-place : {L : List (List ℕ)} {q c : ℕ} → Trace L q c → (q < length L) ⊎ ((q ≡ length L) × (c ≡ 0))
+  pub trace-place : {L : List (List ℕ)} {q c : ℕ} → Trace stand n L q c → (q < length L) ⊎ ((q ≡ length L) × (c ≡ 0))
   trace-place begin = inl (omega arith)
   trace-place (known t h g k i e) = inl h
   trace-place (new {L = L} {q = q} {c = c} t h g e) = inl (omega (arith, snoc-size L (at L q ++ (c ∷ []))))
   trace-place (turn {L = L} {q = q} t h) = elim (decLt (suc q) (length L)) [ yes x ↦ inl x | no x ↦ inr (omega arith) ]
 
   -- EACH LINE BEFORE A LINE FOUND HAS THE STANDING OF AN EARLIER ONE: the line found is the first of the next distinct standing.
-  pub in-order : {L : List (List ℕ)} {q c : ℕ} → Trace L q c → (k : ℕ) → k < length L → (v : List ℕ) → Bytes n v → v ≺ at L k → (j : ℕ) × (j < k) × (stand (at L j) ≡ stand v)
+  pub in-order : {L : List (List ℕ)} {q c : ℕ} → Trace stand n L q c → (k : ℕ) → k < length L → (v : List ℕ) → Bytes n v → v ≺ at L k → (j : ℕ) × (j < k) × (stand (at L j) ≡ stand v)
   in-order {L} {q} {c} t k l v m o =
       either
       (λ h. earlier-of t v (covered t h m (≺-trans v (at L k) (at L q ++ (c ∷ [])) o (before-next t h (increasing t) k l))) k l o)
-      (λ h. earlier-of t v (all-covered (subst (λ d. Trace L d 0) (h .0) (subst (λ d. Trace L q d) (h .1) t)) m) k l o)
+      (λ h. earlier-of t v (all-covered (subst (λ d. Trace stand n L d 0) (h .0) (subst (λ d. Trace stand n L q d) (h .1) t)) m) k l o)
       (trace-place t)
 
   -- The lines found are lines of bytes.
-  pub trace-bytes : {L : List (List ℕ)} {q c : ℕ} → Trace L q c → (k : ℕ) → k < length L → Below n (at L k)
+  pub trace-bytes : {L : List (List ℕ)} {q c : ℕ} → Trace stand n L q c → (k : ℕ) → k < length L → Below n (at L k)
   trace-bytes begin zero l = tt
   trace-bytes begin (suc k) l = absurd (omega arith)
   trace-bytes (known t h g m i e) k l = trace-bytes t k l

@@ -10,15 +10,16 @@ use Rattle.theory.specs.Pattern.{Re, Numbered}
 use Rattle.theory.specs.Standing.{standing}
 use Rattle.theory.specs.Lines.{_≺_}
 use Rattle.theory.specs.Records.{at}
+use Rattle.theory.specs.Code.Search.{Search}
 use Rattle.theory.proofs.Search.{origin, increasing}
 use Rattle.theory.proofs.Lines.{≺-irrefl, ≺-trans}
-use Rattle.theory.proofs.Records.{carries, Search, search-records}
+use Rattle.theory.proofs.Records.{carries, search-records}
 use Rattle.verdict.specs.Record.{recordBytes}
 use Rattle.verdict.specs.Table.{recordOf}
 use Rattle.verdict.proofs.Tables.{record-is, snoc-after}
 
 module _ (r : Re) (d : Numbered 0 r) where
-  pub came-from : {L : List (List ℕ)} {q c : ℕ} → Search r d L q c → (k : ℕ) → 0 < k → k < length L
+  pub came-from : {L : List (List ℕ)} {q c : ℕ} → Search r L q c → (k : ℕ) → 0 < k → k < length L
       → (j b : ℕ) × (j < k) × (b < 256) × (at L k ≡ at L j ++ (b ∷ [])) × (recordOf r L (at L k) ≡ recordBytes (standing r (at L k)) j b)
   came-from {L} {q} {c} t k p l =
       let (j, b, a, x, y, z) = origin (standing r) (carries r d) 256 t k p l in

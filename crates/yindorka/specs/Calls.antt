@@ -9,28 +9,16 @@ use Rattle.grammar.specs.Grammar.{Alternation}
 use Rattle.grammar.specs.Limits.{Reads}
 use Rattle.grammar.specs.Refusals.{Fault}
 use Rattle.grammar.specs.WriteOut.{writeOut}
-use Rattle.standing.specs.Stands.{Lent}
+use Rattle.standing.specs.Stands.{Arrays, Lent}
 use Rattle.checker.specs.declared.Verdict.{Verdict}
 use Rattle.checker.specs.declared.Verdict.the-variants.{Alike, Unlike, Refused}
 use Rattle.checker.specs.Verdicts.{Checks}
 use Rattle.yindorka.specs.declared.Refusal.{Refusal}
 use Rattle.yindorka.specs.declared.Outcome.{Outcome}
 
--- The tables of a pattern, five arrays.
-pub record Tables : Type 0 where
-  pub masks : List ℕ
-  pub rows : List ℕ
-  pub lens : List ℕ
-  pub sets : List ℕ
-  pub ends : List ℕ
-
--- They are those of the pattern r.
-abbrev pub TablesOf : Re → Tables → Type 0
-TablesOf r t = Lent r (t .masks) (t .rows) (t .lens) (t .sets) (t .ends)
-
 -- Number 0: the pattern is accepted, and the tables are its own. Else it is refused with number and place, and the tables are kept.
-pub data Prepared (p : List ℕ) (old : Tables) : Refusal → Tables → Type 0 where
-  ready : {a : Alternation} {new : Tables} → Reads p a → TablesOf (writeOut a) new → Prepared p old (record { number = 0; place = 0 }) new
+pub data Prepared (p : List ℕ) (old : Arrays) : Refusal → Arrays → Type 0 where
+  ready : {a : Alternation} {new : Arrays} → Reads p a → Lent (writeOut a) new → Prepared p old (record { number = 0; place = 0 }) new
   refused : {n k : ℕ} → Fault p n k → Prepared p old (record { number = n; place = k }) old
 
 -- 1: both spans begin at the first number, the greedy one ends at the second and the POSIX one at the third. 0: neither is there, and the numbers are kept.
@@ -39,8 +27,8 @@ pub data CutTo (r : Re) (w old : List ℕ) : ℕ → List ℕ → Type 0 where
   none : greedy r w ≡ nowhere → posix r w ≡ nowhere → CutTo r w old 0 old
 
 -- For the pattern of which the tables are.
-abbrev pub Cuts : Tables → List ℕ → List ℕ → ℕ → List ℕ → Type 0
-Cuts t w old x new = (r : Re) → TablesOf r t → CutTo r w old x new
+pub record Cuts (t : Arrays) (w old : List ℕ) (x : ℕ) (new : List ℕ) : Type 0 where
+  pub cut : {r : Re} → Lent r t → CutTo r w old x new
 
 -- Kind 0: alike with the record count. 1: unlike with the count and the witness's length. 2: refused with number and place.
 abbrev pub outcomeOf : Verdict → Outcome

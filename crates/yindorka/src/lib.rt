@@ -1,8 +1,8 @@
 // The library for other languages: a pattern's tables, both spans of a line by them, and the checker. No function keeps a state, allocates or fails: a pattern that is no pattern is refused.
 ghost use mathlib.Core.Path.{_≡_};
+ghost use Rattle.standing.specs.Stands.{arrays};
 ghost use Rattle.yindorka.specs.Calls.{Prepared, Cuts, Decided, outcomeOf};
 use checker::Verdict;
-use matchers::Span;
 use matchers::Spans;
 use reader::Answer;
 
@@ -32,8 +32,8 @@ pub extern "C" fn yindorka_prepare(
     ends: &mut [u8; 65],
 ) -> Refusal
     ensures prepared { λ r. ⌜ Prepared (now (pattern .entry))
-        (record { masks = now (masks .entry); rows = now (rows .entry); lens = now (lens .entry); sets = now (sets .entry); ends = now (ends .entry) }) r
-        (record { masks = now (masks .exit); rows = now (rows .exit); lens = now (lens .exit); sets = now (sets .exit); ends = now (ends .exit) }) ⌝ }
+        (arrays (now (masks .entry)) (now (rows .entry)) (now (lens .entry)) (now (sets .entry)) (now (ends .entry))) r
+        (arrays (now (masks .exit)) (now (rows .exit)) (now (lens .exit)) (now (sets .exit)) (now (ends .exit))) ⌝ }
 {
     let reading = reader::read(pattern);
     let answer = reading.answer;
@@ -72,23 +72,19 @@ pub extern "C" fn yindorka_cut<'a>(
     ends: &'a [u8; 65],
     spans: &mut [usize; 3],
 ) -> usize
-    ensures cuts { λ r. ⌜ Cuts (record { masks = now (masks .entry); rows = now (rows .entry); lens = now (lens .entry); sets = now (sets .entry); ends = now (ends .entry) })
+    ensures cuts { λ r. ⌜ Cuts (arrays (now (masks .entry)) (now (rows .entry)) (now (lens .entry)) (now (sets .entry)) (now (ends .entry)))
         (now (line .entry)) (now (spans .entry)) r (now (spans .exit)) ⌝ }
 {
     let both = matchers::cut(line, masks, rows, lens, sets, ends);
-    let greedy = both.greedy;
-    let posix = both.posix;
-    let Span::Located { start, end: short } = greedy else {
-        return 0;
-    };
-    let Span::Located {
-        start: _,
-        end: long,
-    } = posix
+    let Spans::Located {
+        start,
+        greedy,
+        posix,
+    } = both
     else {
         return 0;
     };
-    *spans = [start, short, long];
+    *spans = [start, greedy, posix];
     1
 }
 

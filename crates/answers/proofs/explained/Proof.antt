@@ -5,24 +5,6 @@ use Rattle.answers.proofs.Cutting.{witness-cut}
 use Rattle.answers.proofs.explained.Statement.{statement}
 use Rattle.answers.proofs.explained.Tie as tie
 
-enum-known-x : tie.Need-enum-known-x
-enum-known-x c = search needs
-
-alike-requires : tie.Need-alike-requires
-alike-requires c κs = search needs
-
-enum-known-x-2 : tie.Need-enum-known-x-2
-enum-known-x-2 c = search needs
-
-cut-witness-requires : tie.Need-cut-witness-requires
-cut-witness-requires c κs = search needs
-
-enum-known-x-3 : tie.Need-enum-known-x-3
-enum-known-x-3 c = search needs
-
-refused-requires : tie.Need-refused-requires
-refused-requires c κs = search needs
-
 returns : tie.Need-returns
 returns c = rw (c .before .before .before .x .given .1) (λ t u t′ k. c .alike .ensures)
 
@@ -36,12 +18,12 @@ pub explained-spec : {M : Type 1} → statement M
 explained-spec =
     tie.close
     (tie.spec
-    enum-known-x
-    alike-requires
-    enum-known-x-2
-    cut-witness-requires
-    enum-known-x-3
-    refused-requires
+    (λ c. search needs)
+    (λ c κs. search needs)
+    (λ c. search needs)
+    (λ c κs. search needs)
+    (λ c. search needs)
+    (λ c κs. search needs)
     returns
     returns-2
     returns-3)

@@ -7,12 +7,6 @@ use borrow.Author.Needs.{needs}
 use Rattle.arrays.proofs.add_if.Statement.{statement}
 use Rattle.arrays.proofs.add_if.Tie as tie
 
-shl-union : tie.Need-shl-union
-shl-union c = search needs
-
-union-requires : tie.Need-union-requires
-union-requires c κs = search needs
-
 returns : tie.Need-returns
 returns c = λ k. c .union .ensures k ∙ rw (c .before .if1 .taken, shift-bit (c .before .before .args .p) k (c .before .before .pre))
 
@@ -20,4 +14,4 @@ returns-2 : tie.Need-returns-2
 returns-2 c = λ k. rw (c .if1 .left) (sym (or-false (hasBit (c .before .args .x) k)))
 
 pub add-if-spec : {M : Type 1} → statement M
-add-if-spec = tie.close (tie.spec shl-union union-requires returns returns-2)
+add-if-spec = tie.close (tie.spec (λ c. search needs) (λ c κs. search needs) returns returns-2)

@@ -19,23 +19,8 @@ abbrev μ-loop : tie.MeasureT-loop
 loop-holds : tie.Need-loop-holds Inv-loop μ-loop
 loop-holds c = (omega arith, λ j h. absurd (omega arith), λ j h. absurd (omega arith), c .pre .1)
 
-element-copy-out-size-at : tie.Need-element-copy-out-size-at Inv-loop μ-loop
-element-copy-out-size-at c = search needs
-
 size-at-requires : tie.Need-size-at-requires Inv-loop μ-loop
 size-at-requires c κs = (omega arith, c .before .before .before .loop .inv .2)
-
-mul-sizes : tie.Need-mul-sizes Inv-loop μ-loop
-mul-sizes c = search needs
-
-element-write-sizes : tie.Need-element-write-sizes Inv-loop μ-loop
-element-write-sizes c = search needs
-
-add-i : tie.Need-add-i Inv-loop μ-loop
-add-i c = search needs
-
-loop-less : tie.Need-loop-less Inv-loop μ-loop
-loop-less c = search needs
 
 loop-again : tie.Need-loop-again Inv-loop μ-loop
 loop-again c =
@@ -55,11 +40,11 @@ fill-sizes-spec =
     Inv-loop
     μ-loop
     loop-holds
-    element-copy-out-size-at
+    (λ c. search needs)
     size-at-requires
-    mul-sizes
-    element-write-sizes
-    add-i
-    loop-less
+    (λ c. search needs)
+    (λ c. search needs)
+    (λ c. search needs)
+    (λ c. search needs)
     loop-again
     returns)

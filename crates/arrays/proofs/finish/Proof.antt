@@ -5,18 +5,6 @@ use borrow.Author.Needs.{needs}
 use Rattle.arrays.proofs.finish.Statement.{statement}
 use Rattle.arrays.proofs.finish.Tie as tie
 
-within-requires : tie.Need-within-requires
-within-requires c κs = search needs
-
-number-leaves-requires : tie.Need-number-leaves-requires
-number-leaves-requires c κs = search needs
-
-fill-sizes-requires : tie.Need-fill-sizes-requires
-fill-sizes-requires c κs = search needs
-
-masks-of-requires : tie.Need-masks-of-requires
-masks-of-requires c κs = search needs
-
 returns : tie.Need-returns
 returns c =
     let a = c .before .before .before .before .before .before .before .before .before .before .args in
@@ -25,4 +13,4 @@ returns c =
 pub finish-spec : {M : Type 1} → statement M
 finish-spec =
     tie.close
-    (tie.spec within-requires number-leaves-requires fill-sizes-requires masks-of-requires returns)
+    (tie.spec (λ c κs. search needs) (λ c κs. search needs) (λ c κs. search needs) (λ c κs. search needs) returns)

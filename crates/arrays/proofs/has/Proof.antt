@@ -8,11 +8,8 @@ use borrow.Author.Needs.{needs}
 use Rattle.arrays.proofs.has.Statement.{statement}
 use Rattle.arrays.proofs.has.Tie as tie
 
-shr-result : tie.Need-shr-result
-shr-result c = search needs
-
 returns : tie.Need-returns
 returns c = ap (λ (d : ℕ). eqb d 1) (and-mask (c .args .x / 2 ^ c .args .p) 1)
 
 pub has-spec : {M : Type 1} → statement M
-has-spec = tie.close (tie.spec shr-result returns)
+has-spec = tie.close (tie.spec (λ c. search needs) returns)

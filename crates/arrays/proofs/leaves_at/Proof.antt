@@ -18,21 +18,6 @@ abbrev μ-loop : tie.MeasureT-loop
 loop-holds : tie.Need-loop-holds Inv-loop μ-loop
 loop-holds c = (omega arith, no-places (c .args .places .now) (c .args .q))
 
-mul-add-if : tie.Need-mul-add-if Inv-loop μ-loop
-mul-add-if c = search needs
-
-element-copy-out-add-if : tie.Need-element-copy-out-add-if Inv-loop μ-loop
-element-copy-out-add-if c = search needs
-
-add-if-requires : tie.Need-add-if-requires Inv-loop μ-loop
-add-if-requires c κs = search needs
-
-add-p : tie.Need-add-p Inv-loop μ-loop
-add-p c = search needs
-
-loop-less : tie.Need-loop-less Inv-loop μ-loop
-loop-less c = search needs
-
 loop-again : tie.Need-loop-again Inv-loop μ-loop
 loop-again c =
     let a = c .before .before .before .before .args in
@@ -51,10 +36,10 @@ leaves-at-spec =
     Inv-loop
     μ-loop
     loop-holds
-    mul-add-if
-    element-copy-out-add-if
-    add-if-requires
-    add-p
-    loop-less
+    (λ c. search needs)
+    (λ c. search needs)
+    (λ c κs. search needs)
+    (λ c. search needs)
+    (λ c. search needs)
     loop-again
     returns)

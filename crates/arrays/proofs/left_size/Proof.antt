@@ -5,21 +5,6 @@ use borrow.Author.Needs.{needs}
 use Rattle.arrays.proofs.left_size.Statement.{statement}
 use Rattle.arrays.proofs.left_size.Tie as tie
 
-mul-wide : tie.Need-mul-wide
-mul-wide c = search needs
-
-element-copy-out-wide : tie.Need-element-copy-out-wide
-element-copy-out-wide c = search needs
-
-wide-requires : tie.Need-wide-requires
-wide-requires c κs = search needs
-
-mul-result : tie.Need-mul-result
-mul-result c = search needs
-
-element-copy-out-result : tie.Need-element-copy-out-result
-element-copy-out-result c = search needs
-
 returns : tie.Need-returns
 returns c = left-some (c .before .before .before .before .args .sizes .now) (c .before .before .before .before .args .m) (c .before .before .wide .result) (c .before .before .wide .ensures) (c .before .if1 .taken)
 
@@ -30,10 +15,10 @@ pub left-size-spec : {M : Type 1} → statement M
 left-size-spec =
     tie.close
     (tie.spec
-    mul-wide
-    element-copy-out-wide
-    wide-requires
-    mul-result
-    element-copy-out-result
+    (λ c. search needs)
+    (λ c. search needs)
+    (λ c κs. search needs)
+    (λ c. search needs)
+    (λ c. search needs)
     returns
     returns-2)

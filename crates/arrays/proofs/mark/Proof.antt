@@ -5,15 +5,6 @@ use borrow.Author.Needs.{needs}
 use Rattle.arrays.proofs.mark.Statement.{statement}
 use Rattle.arrays.proofs.mark.Tie as tie
 
-cast-leaf-holds : tie.Need-cast-leaf-holds
-cast-leaf-holds c = search needs
-
-leaf-holds-requires : tie.Need-leaf-holds-requires
-leaf-holds-requires c κs = search needs
-
-union-requires : tie.Need-union-requires
-union-requires c κs = search needs
-
 returns : tie.Need-returns
 returns c =
     let a = c .before .before .before .before .args in
@@ -26,4 +17,4 @@ returns-2 c =
 
 pub mark-spec : {M : Type 1} → statement M
 mark-spec =
-    tie.close (tie.spec cast-leaf-holds leaf-holds-requires union-requires returns returns-2)
+    tie.close (tie.spec (λ c. search needs) (λ c κs. search needs) (λ c κs. search needs) returns returns-2)

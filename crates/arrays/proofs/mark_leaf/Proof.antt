@@ -6,31 +6,10 @@ use borrow.Author.Needs.{needs}
 use Rattle.arrays.proofs.mark_leaf.Statement.{statement}
 use Rattle.arrays.proofs.mark_leaf.Tie as tie
 
-has-requires : tie.Need-has-requires
-has-requires c κs = search needs
-
 returns : tie.Need-returns
 returns c =
     let a = c .before .before .before .args in
     turn-done (a .s .now) (a .places .now) (a .n) (a .done) (a .p) (a .masks .now) (c .before .before .before .pre .2) (sym (c .before .has .ensures) ∙ c .if1 .taken)
-
-mul-q : tie.Need-mul-q
-mul-q c = search needs
-
-element-copy-out-q : tie.Need-element-copy-out-q
-element-copy-out-q c = search needs
-
-leaves-at-requires : tie.Need-leaves-at-requires
-leaves-at-requires c κs = search needs
-
-wide-requires : tie.Need-wide-requires
-wide-requires c κs = search needs
-
-mark-all-requires : tie.Need-mark-all-requires
-mark-all-requires c κs = search needs
-
-union-requires : tie.Need-union-requires
-union-requires c κs = search needs
 
 returns-2 : tie.Need-returns-2
 returns-2 c =
@@ -42,12 +21,12 @@ pub mark-leaf-spec : {M : Type 1} → statement M
 mark-leaf-spec =
     tie.close
     (tie.spec
-    has-requires
+    (λ c κs. search needs)
     returns
-    mul-q
-    element-copy-out-q
-    leaves-at-requires
-    wide-requires
-    mark-all-requires
-    union-requires
+    (λ c. search needs)
+    (λ c. search needs)
+    (λ c κs. search needs)
+    (λ c κs. search needs)
+    (λ c κs. search needs)
+    (λ c κs. search needs)
     returns-2)

@@ -20,12 +20,6 @@ loop-holds c = (omega arith, done-begin (c .before .args .s .now) (c .before .ar
 mark-leaf-requires : tie.Need-mark-leaf-requires Inv-loop μ-loop
 mark-leaf-requires c κs = (omega arith, omega arith, c .before .before .loop .inv .1 .long)
 
-add-p : tie.Need-add-p Inv-loop μ-loop
-add-p c = search needs
-
-loop-less : tie.Need-loop-less Inv-loop μ-loop
-loop-less c = search needs
-
 loop-again : tie.Need-loop-again Inv-loop μ-loop
 loop-again c =
     let a = c .before .before .before .before .before .args in
@@ -42,4 +36,4 @@ returns c =
 pub masks-of-spec : {M : Type 1} → statement M
 masks-of-spec =
     tie.close
-    (tie.spec Inv-loop μ-loop loop-holds mark-leaf-requires add-p loop-less loop-again returns)
+    (tie.spec Inv-loop μ-loop loop-holds mark-leaf-requires (λ c. search needs) (λ c. search needs) loop-again returns)

@@ -7,21 +7,6 @@ use borrow.Author.Needs.{needs}
 use Rattle.arrays.proofs.size_at.Statement.{statement}
 use Rattle.arrays.proofs.size_at.Tie as tie
 
-returns : tie.Need-returns
-returns c = search needs
-
-sub-m : tie.Need-sub-m
-sub-m c = search needs
-
-mul-size-of : tie.Need-mul-size-of
-mul-size-of c = search needs
-
-element-copy-out-size-of : tie.Need-element-copy-out-size-of
-element-copy-out-size-of c = search needs
-
-left-size-requires : tie.Need-left-size-requires
-left-size-requires c κs = search needs
-
 size-of-requires : tie.Need-size-of-requires
 size-of-requires c κs =
     let a = c .before .before .before .args in
@@ -36,10 +21,10 @@ pub size-at-spec : {M : Type 1} → statement M
 size-at-spec =
     tie.close
     (tie.spec
-    returns
-    sub-m
-    mul-size-of
-    element-copy-out-size-of
-    left-size-requires
+    (λ c. search needs)
+    (λ c. search needs)
+    (λ c. search needs)
+    (λ c. search needs)
+    (λ c κs. search needs)
     size-of-requires
     returns-2)

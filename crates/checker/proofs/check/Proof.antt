@@ -5,23 +5,8 @@ use Rattle.checker.proofs.Decides.{accepted-sound, checks-accepted, che
 use Rattle.checker.proofs.check.Statement.{statement}
 use Rattle.checker.proofs.check.Tie as tie
 
-read-requires : tie.Need-read-requires
-read-requires c κs = search needs
-
-enum-known-answer : tie.Need-enum-known-answer
-enum-known-answer c = search needs
-
-enum-told : tie.Need-enum-told
-enum-told c = search needs
-
 decide-requires : tie.Need-decide-requires
 decide-requires c κs = accepted-sound (c .before .before .before .before .before .read .ensures) (c .before .before .before .enum-told .given .1)
-
-same-length : tie.Need-same-length
-same-length c = search needs
-
-same-length-2 : tie.Need-same-length-2
-same-length-2 c = search needs
 
 returns : tie.Need-returns
 returns c = checks-accepted (c .before .before .before .before .before .before .before .before .before .before .read .ensures) (c .before .before .before .before .decide .result) (c .before .before .before .before .before .before .before .before .enum-told .given .1) (c .before .before .before .before .decide .ensures)
@@ -33,11 +18,11 @@ pub check-spec : {M : Type 1} → statement M
 check-spec =
     tie.close
     (tie.spec
-    read-requires
-    enum-known-answer
-    enum-told
+    (λ c κs. search needs)
+    (λ c. search needs)
+    (λ c. search needs)
     decide-requires
-    same-length
-    same-length-2
+    (λ c. search needs)
+    (λ c. search needs)
     returns
     returns-2)

@@ -18,14 +18,8 @@ loop-holds c = write-start (c .before .before .pre)
 sub-i : tie.Need-sub-i Inv-loop μ-loop
 sub-i c = write-left (omega arith) (c .before .loop .inv) .0
 
-byte-requires : tie.Need-byte-requires Inv-loop μ-loop
-byte-requires c κs = search needs
-
 slice-write-witness : tie.Need-slice-write-witness Inv-loop μ-loop
 slice-write-witness c = let h = write-left (omega arith) (c .before .before .loop .inv) in omega arith
-
-origin-requires : tie.Need-origin-requires Inv-loop μ-loop
-origin-requires c κs = search needs
 
 loop-less : tie.Need-loop-less Inv-loop μ-loop
 loop-less c = write-step (omega arith) (c .origin .ensures) (c .before .byte .ensures) (c .before .before .before .loop .inv) .0
@@ -47,9 +41,9 @@ write-line-spec =
     μ-loop
     loop-holds
     sub-i
-    byte-requires
+    (λ c κs. search needs)
     slice-write-witness
-    origin-requires
+    (λ c κs. search needs)
     loop-less
     loop-again
     same-length

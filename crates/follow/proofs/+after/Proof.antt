@@ -31,12 +31,6 @@ after-below t = and 1 after-kinds.ps (falls 1 after-kinds.ps _<_ μ-after t) aft
 abbrev callees-after : ℕ → after-lts.Claims
 callees-after t = (lacks-reads.Asked, lacks-reads.Learnt, join-reads.Asked, join-reads.Learnt, none-reads.Asked, none-reads.Learnt, closure-reads.Asked, closure-reads.Learnt, after-below t, after.Post, middle-reads.Asked, middle-reads.Learnt)
 
-after-add-lacks : (t : ℕ) → after-lts.Need-add-lacks (callees-after t) (after-at t) after.Post
-after-add-lacks t c = search needs
-
-after-lacks-requires : (t : ℕ) → after-lts.Need-lacks-requires (callees-after t) (after-at t) after.Post
-after-lacks-requires t c κs = search needs
-
 after-returns : (t : ℕ) → after-lts.Need-returns (callees-after t) (after-at t) after.Post
 after-returns t c =
     let s = c .before .before in
@@ -54,12 +48,6 @@ after-element-copy-out-kind t c =
     let s = c .before .before in
     let h = some-place (c .before .lacks .ensures) (c .if1 .left) in
     omega (arith, h, s .pre .1 .0)
-
-after-add-if2 : (t : ℕ) → after-lts.Need-add-if2 (callees-after t) (after-at t) after.Post
-after-add-if2 t c = search needs
-
-after-join-requires : (t : ℕ) → after-lts.Need-join-requires (callees-after t) (after-at t) after.Post
-after-join-requires t c κs = search needs
 
 after-returns-2 : (t : ℕ) → after-lts.Need-returns-2 (callees-after t) (after-at t) after.Post
 after-returns-2 t c =
@@ -82,12 +70,6 @@ after-returns-4 t c =
     let a = s .args in
     after-nothing (a .kinds .now) (a .sizes .now) (a .low) (a .end) (a .p) (a .rest) (a .out) h (c .if4 .taken) (s .pre .1 .3)
 
-after-none-requires : (t : ℕ) → after-lts.Need-none-requires (callees-after t) (after-at t) after.Post
-after-none-requires t c κs = search needs
-
-after-closure-requires : (t : ℕ) → after-lts.Need-closure-requires (callees-after t) (after-at t) after.Post
-after-closure-requires t c κs = search needs
-
 after-after-requires : (t : ℕ) → after-lts.Need-after-requires (callees-after t) (after-at t) after.Post
 after-after-requires t c κs =
     let s = c .before .before .before .before .before .before .before .before .before in
@@ -100,12 +82,6 @@ after-returns-5 t c =
     let h = some-place (c .before .before .before .before .before .before .before .before .before .lacks .ensures) (c .before .before .before .before .before .before .before .before .if1 .left) in
     let a = s .args in
     after-again (a .kinds .now) (a .sizes .now) (a .low) (a .end) (a .p) (a .rest) (a .out) h (c .before .before .none .result) (c .before .closure .result) (c .after .result) (c .before .before .before .if5 .taken) (c .before .before .none .ensures) (c .before .closure .ensures) (c .after .ensures)
-
-after-middle-requires : (t : ℕ) → after-lts.Need-middle-requires (callees-after t) (after-at t) after.Post
-after-middle-requires t c κs = search needs
-
-after-add-lacks-2 : (t : ℕ) → after-lts.Need-add-lacks-2 (callees-after t) (after-at t) after.Post
-after-add-lacks-2 t c = search needs
 
 after-lacks-requires-2 : (t : ℕ) → after-lts.Need-lacks-requires-2 (callees-after t) (after-at t) after.Post
 after-lacks-requires-2 t c κs =
@@ -125,12 +101,6 @@ after-returns-6 t c =
     let h = some-place (c .before .before .before .before .before .before .before .before .before .before .before .lacks .ensures) (c .before .before .before .before .before .before .before .before .before .before .if1 .left) in
     let a = s .args in
     after-right (a .kinds .now) (a .sizes .now) (a .low) (a .end) (a .p) (a .rest) (a .out) h (c .before .before .before .before .middle .result) (c .before .before .before .before .middle .ensures) (c .after2 .result) (c .before .before .before .if6 .taken) (c .before .before .lacks2 .ensures .none (c .before .if7 .taken)) (c .after2 .ensures)
-
-after-none-requires-2 : (t : ℕ) → after-lts.Need-none-requires-2 (callees-after t) (after-at t) after.Post
-after-none-requires-2 t c κs = search needs
-
-after-closure-requires-2 : (t : ℕ) → after-lts.Need-closure-requires-2 (callees-after t) (after-at t) after.Post
-after-closure-requires-2 t c κs = search needs
 
 after-after-requires-3 : (t : ℕ) → after-lts.Need-after-requires-3 (callees-after t) (after-at t) after.Post
 after-after-requires-3 t c κs =
@@ -173,27 +143,27 @@ after-returns-8 t c =
 pub +after-spec : {M : Type 1} → statement M
 +after-spec = close μ-after λ t. after-lts.spec (callees-after t) (after-at t)
     after.Post
-    (after-add-lacks t)
-    (after-lacks-requires t)
+    (λ c. search needs)
+    (λ c κs. search needs)
     (after-returns t)
     (after-sub-last t)
     (after-element-copy-out-kind t)
-    (after-add-if2 t)
-    (after-join-requires t)
+    (λ c. search needs)
+    (λ c κs. search needs)
     (after-returns-2 t)
     (after-returns-3 t)
     (after-returns-4 t)
-    (after-none-requires t)
-    (after-closure-requires t)
+    (λ c κs. search needs)
+    (λ c κs. search needs)
     (after-after-requires t)
     (after-returns-5 t)
-    (after-middle-requires t)
-    (after-add-lacks-2 t)
+    (λ c κs. search needs)
+    (λ c. search needs)
     (after-lacks-requires-2 t)
     (after-after-requires-2 t)
     (after-returns-6 t)
-    (after-none-requires-2 t)
-    (after-closure-requires-2 t)
+    (λ c κs. search needs)
+    (λ c κs. search needs)
     (after-after-requires-3 t)
     (after-after-requires-4 t)
     (after-returns-7 t)

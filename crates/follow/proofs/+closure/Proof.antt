@@ -29,23 +29,11 @@ closure-below t = and 1 closure-kinds.ps (falls 1 closure-kinds.ps _<_ μ-closur
 abbrev callees-closure : ℕ → closure-lts.Claims
 callees-closure t = (join-reads.Asked, join-reads.Learnt, add-reads.Asked, add-reads.Learnt, none-reads.Asked, none-reads.Learnt, closure-below t, closure.Post, middle-reads.Asked, middle-reads.Learnt)
 
-closure-join-requires : (t : ℕ) → closure-lts.Need-join-requires (callees-closure t) (closure-at t) closure.Post
-closure-join-requires t c κs = search needs
-
 closure-returns : (t : ℕ) → closure-lts.Need-returns (callees-closure t) (closure-at t) closure.Post
 closure-returns t c =
     let s = c .before .before in
     let a = s .args in
     closure-none (a .kinds .now) (a .sizes .now) (a .low) (a .end) (a .rest) (a .out) (c .join .result) (c .before .if1 .taken) (c .join .ensures)
-
-closure-sub-last : (t : ℕ) → closure-lts.Need-sub-last (callees-closure t) (closure-at t) closure.Post
-closure-sub-last t c = search needs
-
-closure-element-copy-out-kind : (t : ℕ) → closure-lts.Need-element-copy-out-kind (callees-closure t) (closure-at t) closure.Post
-closure-element-copy-out-kind t c = search needs
-
-closure-join-requires-2 : (t : ℕ) → closure-lts.Need-join-requires-2 (callees-closure t) (closure-at t) closure.Post
-closure-join-requires-2 t c κs = search needs
 
 closure-returns-2 : (t : ℕ) → closure-lts.Need-returns-2 (callees-closure t) (closure-at t) closure.Post
 closure-returns-2 t c =
@@ -53,20 +41,11 @@ closure-returns-2 t c =
     let a = s .args in
     closure-empty (a .kinds .now) (a .sizes .now) (a .low) (a .end) (a .rest) (a .out) (c .join2 .result) (omega (arith, c .before .before .before .if1 .left)) (c .before .if2 .taken) (c .join2 .ensures)
 
-closure-join-requires-3 : (t : ℕ) → closure-lts.Need-join-requires-3 (callees-closure t) (closure-at t) closure.Post
-closure-join-requires-3 t c κs = search needs
-
 closure-returns-3 : (t : ℕ) → closure-lts.Need-returns-3 (callees-closure t) (closure-at t) closure.Post
 closure-returns-3 t c =
     let s = c .before .before .before .before .before in
     let a = s .args in
     closure-beyond (a .kinds .now) (a .sizes .now) (a .low) (a .end) (a .rest) (a .out) (c .join3 .result) (omega (arith, c .before .before .before .before .if1 .left)) (c .before .if3 .taken) (c .join3 .ensures)
-
-closure-sub-add : (t : ℕ) → closure-lts.Need-sub-add (callees-closure t) (closure-at t) closure.Post
-closure-sub-add t c = search needs
-
-closure-add-requires : (t : ℕ) → closure-lts.Need-add-requires (callees-closure t) (closure-at t) closure.Post
-closure-add-requires t c κs = search needs
 
 closure-returns-4 : (t : ℕ) → closure-lts.Need-returns-4 (callees-closure t) (closure-at t) closure.Post
 closure-returns-4 t c =
@@ -74,23 +53,11 @@ closure-returns-4 t c =
     let a = s .args in
     closure-leaf (a .kinds .now) (a .sizes .now) (a .low) (a .end) (a .rest) (a .out) (c .add .result) (omega (arith, c .before .before .before .before .before .if1 .left)) (c .before .if4 .taken) (omega (arith, c .before .before .if3 .left)) (c .add .ensures)
 
-closure-none-requires : (t : ℕ) → closure-lts.Need-none-requires (callees-closure t) (closure-at t) closure.Post
-closure-none-requires t c κs = search needs
-
-closure-closure-requires : (t : ℕ) → closure-lts.Need-closure-requires (callees-closure t) (closure-at t) closure.Post
-closure-closure-requires t c κs = search needs
-
-closure-join-requires-4 : (t : ℕ) → closure-lts.Need-join-requires-4 (callees-closure t) (closure-at t) closure.Post
-closure-join-requires-4 t c κs = search needs
-
 closure-returns-5 : (t : ℕ) → closure-lts.Need-returns-5 (callees-closure t) (closure-at t) closure.Post
 closure-returns-5 t c =
     let s = c .before .before .before .before .before .before .before .before .before in
     let a = s .args in
     closure-star (a .kinds .now) (a .sizes .now) (a .low) (a .end) (a .rest) (a .out) (c .join4 .result) (omega (arith, c .before .before .before .before .before .before .before .before .if1 .left)) (c .before .before .before .none .result) (c .before .closure .result) (c .before .before .if5 .taken) (c .before .before .before .none .ensures) (c .before .closure .ensures) (c .join4 .ensures)
-
-closure-middle-requires : (t : ℕ) → closure-lts.Need-middle-requires (callees-closure t) (closure-at t) closure.Post
-closure-middle-requires t c κs = search needs
 
 closure-closure-requires-2 : (t : ℕ) → closure-lts.Need-closure-requires-2 (callees-closure t) (closure-at t) closure.Post
 closure-closure-requires-2 t c κs =
@@ -127,22 +94,22 @@ closure-returns-7 t c =
 pub +closure-spec : {M : Type 1} → statement M
 +closure-spec = close μ-closure λ t. closure-lts.spec (callees-closure t) (closure-at t)
     closure.Post
-    (closure-join-requires t)
+    (λ c κs. search needs)
     (closure-returns t)
-    (closure-sub-last t)
-    (closure-element-copy-out-kind t)
-    (closure-join-requires-2 t)
+    (λ c. search needs)
+    (λ c. search needs)
+    (λ c κs. search needs)
     (closure-returns-2 t)
-    (closure-join-requires-3 t)
+    (λ c κs. search needs)
     (closure-returns-3 t)
-    (closure-sub-add t)
-    (closure-add-requires t)
+    (λ c. search needs)
+    (λ c κs. search needs)
     (closure-returns-4 t)
-    (closure-none-requires t)
-    (closure-closure-requires t)
-    (closure-join-requires-4 t)
+    (λ c κs. search needs)
+    (λ c κs. search needs)
+    (λ c κs. search needs)
     (closure-returns-5 t)
-    (closure-middle-requires t)
+    (λ c κs. search needs)
     (closure-closure-requires-2 t)
     (closure-closure-requires-3 t)
     (closure-returns-6 t)

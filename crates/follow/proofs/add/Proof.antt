@@ -6,17 +6,11 @@ use borrow.Author.Needs.{needs}
 use Rattle.follow.proofs.add.Statement.{statement}
 use Rattle.follow.proofs.add.Tie as tie
 
-holds-requires : tie.Need-holds-requires
-holds-requires c κs = search needs
-
 returns : tie.Need-returns
 returns c = let a = c .before .before .args in let h = c .before .before .pre in add-held (a .x) (a .p) (h .0) (h .1) (sym (c .before .holds .ensures) ∙ c .if1 .taken)
 
 append-requires : tie.Need-append-requires
 append-requires c κs = let h = c .before .before .pre in (h .0, h .1, sym (c .before .holds .ensures) ∙ c .if1 .left)
 
-returns-2 : tie.Need-returns-2
-returns-2 c = search needs
-
 pub add-spec : {M : Type 1} → statement M
-add-spec = tie.close (tie.spec holds-requires returns append-requires returns-2)
+add-spec = tie.close (tie.spec (λ c κs. search needs) returns append-requires (λ c. search needs))

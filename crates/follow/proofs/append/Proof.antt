@@ -10,20 +10,8 @@ use Rattle.follow.proofs.append.Tie as tie
 element-write-r : tie.Need-element-write-r
 element-write-r c = let a = c .args in fits (a .x) (a .p) (c .pre .0) (c .pre .1) (c .pre .2)
 
-add-r : tie.Need-add-r
-add-r c = search needs
-
 returns : tie.Need-returns
 returns c = let a = c .before .args in let h = c .before .pre in append-end (a .x) (a .p) (h .0) (h .1) (h .2) (c .if1 .taken)
-
-wide-requires : tie.Need-wide-requires
-wide-requires c κs = search needs
-
-sub-with : tie.Need-sub-with
-sub-with c = search needs
-
-with-requires : tie.Need-with-requires
-with-requires c κs = search needs
 
 returns-2 : tie.Need-returns-2
 returns-2 c = let a = c .before .before .before .args in let h = c .before .before .before .pre in append-leaf (a .x) (a .p) (h .0) (h .1) (h .2) (c .before .wide .result - 1) (c .with .result) (omega arith) (c .with .ensures)
@@ -31,4 +19,4 @@ returns-2 c = let a = c .before .before .before .args in let h = c .before .befo
 pub append-spec : {M : Type 1} → statement M
 append-spec =
     tie.close
-    (tie.spec element-write-r add-r returns wide-requires sub-with with-requires returns-2)
+    (tie.spec element-write-r (λ c. search needs) returns (λ c κs. search needs) (λ c. search needs) (λ c κs. search needs) returns-2)

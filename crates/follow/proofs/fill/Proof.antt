@@ -18,20 +18,8 @@ abbrev μ-loop : tie.MeasureT-loop
 loop-holds : tie.Need-loop-holds Inv-loop μ-loop
 loop-holds c = (omega arith, filled-begin (c .args .kinds .now) (c .args .sizes .now) (c .args .end) _ (c .pre .1))
 
-row-of-requires : tie.Need-row-of-requires Inv-loop μ-loop
-row-of-requires c κs = search needs
-
-wide-requires : tie.Need-wide-requires Inv-loop μ-loop
-wide-requires c κs = search needs
-
 store-requires : tie.Need-store-requires Inv-loop μ-loop
 store-requires c κs = let l = c .before .before .before .before .before .before .before .loop in (omega (arith, c .before .before .before .before .wide .ensures), c .before .before .before .before .before .row-of .ensures .good, l .inv .1 .long)
-
-add-k : tie.Need-add-k Inv-loop μ-loop
-add-k c = search needs
-
-loop-less : tie.Need-loop-less Inv-loop μ-loop
-loop-less c = search needs
 
 loop-again : tie.Need-loop-again Inv-loop μ-loop
 loop-again c = let a = c .before .before .before .before .before .before .before .before .before .args in let l = c .before .before .before .before .before .before .before .before .loop in let t = tablesOf (l .rows) (l .lens) (l .sets) (l .ends) in (omega arith, filled-more (a .kinds .now) (a .sizes .now) (a .end) (l .k) (c .before .before .before .before .before .before .row-of .result) t _ (omega arith) (l .inv .1) (c .before .before .before .before .before .before .row-of .ensures) (rw (c .before .before .before .before .before .wide .ensures) at (c .store .ensures)))
@@ -46,10 +34,10 @@ fill-spec =
     Inv-loop
     μ-loop
     loop-holds
-    row-of-requires
-    wide-requires
+    (λ c κs. search needs)
+    (λ c κs. search needs)
     store-requires
-    add-k
-    loop-less
+    (λ c. search needs)
+    (λ c. search needs)
     loop-again
     returns)

@@ -11,17 +11,8 @@ use Rattle.follow.proofs.holds.Tie as tie
 returns : tie.Need-returns
 returns c = holds-end (c .before .before .args .x) (c .before .before .args .p) (c .before .before .pre .1) (c .before .if1 .taken)
 
-wide-requires : tie.Need-wide-requires
-wide-requires c κs = search needs
-
-sub-has : tie.Need-sub-has
-sub-has c = search needs
-
-has-requires : tie.Need-has-requires
-has-requires c κs = search needs
-
 returns-2 : tie.Need-returns-2
 returns-2 c = let a = c .before .before .before .args in c .has .ensures ∙ holds-leaf (a .x) (a .p) (c .before .wide .result - 1) (c .before .before .before .pre .1) (c .before .before .before .pre .0) (omega arith)
 
 pub holds-spec : {M : Type 1} → statement M
-holds-spec = tie.close (tie.spec returns wide-requires sub-has has-requires returns-2)
+holds-spec = tie.close (tie.spec returns (λ c κs. search needs) (λ c. search needs) (λ c κs. search needs) returns-2)

@@ -19,17 +19,8 @@ abbrev μ-loop : tie.MeasureT-loop
 loop-holds : tie.Need-loop-holds Inv-loop μ-loop
 loop-holds c = (omega arith, c .pre .0, refl)
 
-element-copy-out-p : tie.Need-element-copy-out-p Inv-loop μ-loop
-element-copy-out-p c = omega arith
-
 add-requires : tie.Need-add-requires Inv-loop μ-loop
 add-requires c κs = (item-small (c .before .before .before .args .t2) (c .before .before .before .pre .1) (c .before .before .loop .i) (omega arith), c .before .before .loop .inv .1)
-
-add-i : tie.Need-add-i Inv-loop μ-loop
-add-i c = omega arith
-
-loop-less : tie.Need-loop-less Inv-loop μ-loop
-loop-less c = omega arith
 
 loop-again : tie.Need-loop-again Inv-loop μ-loop
 loop-again c = let s = c .before .before .before .before in let l = c .before .before .before .loop in (omega arith, c .add .ensures .good, join-turn (s .args .t2) (s .pre .1) (l .r) (c .add .result) (l .i) (omega arith) (c .add .ensures) ∙ l .inv .2)
@@ -44,9 +35,9 @@ join-spec =
     Inv-loop
     μ-loop
     loop-holds
-    element-copy-out-p
+    (λ c. omega arith)
     add-requires
-    add-i
-    loop-less
+    (λ c. omega arith)
+    (λ c. omega arith)
     loop-again
     returns)

@@ -7,29 +7,8 @@ use borrow.Author.Needs.{needs}
 use Rattle.follow.proofs.row_of.Statement.{statement}
 use Rattle.follow.proofs.row_of.Tie as tie
 
-ending-requires : tie.Need-ending-requires
-ending-requires c κs = search needs
-
-none-requires : tie.Need-none-requires
-none-requires c κs = search needs
-
-closure-requires : tie.Need-closure-requires
-closure-requires c κs = search needs
-
 returns : tie.Need-returns
 returns c = let a = c .before .before .before .before .args in row-start (a .kinds .now) (a .sizes .now) (a .end) (c .before .before .ending .result) (c .before .none .result) (c .closure .result) (c .before .before .ending .ensures) (c .before .none .ensures) (a .k) (c .before .before .before .if1 .taken) (c .closure .ensures)
-
-sub-after : tie.Need-sub-after
-sub-after c = search needs
-
-ending-requires-2 : tie.Need-ending-requires-2
-ending-requires-2 c κs = search needs
-
-none-requires-2 : tie.Need-none-requires-2
-none-requires-2 c κs = search needs
-
-after-requires : tie.Need-after-requires
-after-requires c κs = search needs
 
 returns-2 : tie.Need-returns-2
 returns-2 c = let a = c .before .before .before .before .args in row-after (a .kinds .now) (a .sizes .now) (a .end) (c .before .before .ending2 .result) (c .before .none2 .result) (c .after .result) (c .before .before .ending2 .ensures) (c .before .none2 .ensures) (a .k) (a .k - 1) (omega (arith, c .before .before .before .if1 .left)) (c .after .ensures)
@@ -38,12 +17,12 @@ pub row-of-spec : {M : Type 1} → statement M
 row-of-spec =
     tie.close
     (tie.spec
-    ending-requires
-    none-requires
-    closure-requires
+    (λ c κs. search needs)
+    (λ c κs. search needs)
+    (λ c κs. search needs)
     returns
-    sub-after
-    ending-requires-2
-    none-requires-2
-    after-requires
+    (λ c. search needs)
+    (λ c κs. search needs)
+    (λ c κs. search needs)
+    (λ c κs. search needs)
     returns-2)

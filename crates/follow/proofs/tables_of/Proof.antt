@@ -5,14 +5,8 @@ use borrow.Author.Needs.{needs}
 use Rattle.follow.proofs.tables_of.Statement.{statement}
 use Rattle.follow.proofs.tables_of.Tie as tie
 
-places-requires : tie.Need-places-requires
-places-requires c κs = search needs
-
-fill-requires : tie.Need-fill-requires
-fill-requires c κs = search needs
-
 returns : tie.Need-returns
 returns c = filled-right (c .before .before .before .before .before .before .before .before .before .before .before .args .t1) (c .before .before .before .before .before .before .before .before .places .result) _ (c .before .before .before .before .before .before .before .before .places .ensures .1) (c .fill .ensures)
 
 pub tables-of-spec : {M : Type 1} → statement M
-tables-of-spec = tie.close (tie.spec places-requires fill-requires returns)
+tables-of-spec = tie.close (tie.spec (λ c κs. search needs) (λ c κs. search needs) returns)

@@ -5,11 +5,8 @@ use borrow.Author.Needs.{needs}
 use Rattle.follow.proofs.with.Statement.{statement}
 use Rattle.follow.proofs.with.Tie as tie
 
-shl-result : tie.Need-shl-result
-shl-result c = search needs
-
 returns : tie.Need-returns
 returns c = or-with (c .args .x) (c .args .p) (c .pre)
 
 pub with-spec : {M : Type 1} → statement M
-with-spec = tie.close (tie.spec shl-result returns)
+with-spec = tie.close (tie.spec (λ c. search needs) returns)

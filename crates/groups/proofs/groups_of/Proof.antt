@@ -21,12 +21,6 @@ loop-holds c = (omega arith, turn-begin (c .args .masks .now))
 place-requires : tie.Need-place-requires Inv-loop μ-loop
 place-requires c κs = (omega arith, c .before .before .before .loop .inv .1)
 
-add-b : tie.Need-add-b Inv-loop μ-loop
-add-b c = search needs
-
-loop-less : tie.Need-loop-less Inv-loop μ-loop
-loop-less c = search needs
-
 loop-again : tie.Need-loop-again Inv-loop μ-loop
 loop-again c = (omega arith, c .place .ensures)
 
@@ -39,4 +33,4 @@ returns c =
 pub groups-of-spec : {M : Type 1} → statement M
 groups-of-spec =
     tie.close
-    (tie.spec Inv-loop μ-loop loop-holds place-requires add-b loop-less loop-again returns)
+    (tie.spec Inv-loop μ-loop loop-holds place-requires (λ c. search needs) (λ c. search needs) loop-again returns)

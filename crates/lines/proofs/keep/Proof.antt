@@ -7,15 +7,6 @@ use Rattle.lines.proofs.Laws.{keep-one, keep-none}
 use Rattle.lines.proofs.keep.Statement.{statement}
 use Rattle.lines.proofs.keep.Tie as tie
 
-most-requires : tie.Need-most-requires
-most-requires c κs = search needs
-
-element-write-line : tie.Need-element-write-line
-element-write-line c = search needs
-
-add-result : tie.Need-add-result
-add-result c = search needs
-
 returns : tie.Need-returns
 returns c =
     let a = c .before .before .before .args in
@@ -27,4 +18,4 @@ returns-2 c =
     record { most = omega arith; bytes = keep-none 1025 (a .line .now) (a .n) (a .b) (omega arith) (omega arith) }
 
 pub keep-spec : {M : Type 1} → statement M
-keep-spec = tie.close (tie.spec most-requires element-write-line add-result returns returns-2)
+keep-spec = tie.close (tie.spec (λ c κs. search needs) (λ c. search needs) (λ c. search needs) returns returns-2)

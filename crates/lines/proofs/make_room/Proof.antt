@@ -6,14 +6,8 @@ use borrow.Author.Needs.{needs}
 use Rattle.lines.proofs.make_room.Statement.{statement}
 use Rattle.lines.proofs.make_room.Tie as tie
 
-write-requires : tie.Need-write-requires
-write-requires c κs = search needs
-
 returns : tie.Need-returns
 returns c = record { room = λ h. omega arith; kept = λ h. absurd (omega arith) }
-
-write-requires-2 : tie.Need-write-requires-2
-write-requires-2 c κs = search needs
 
 returns-2 : tie.Need-returns-2
 returns-2 c = record { room = λ h. omega arith; kept = λ h. absurd (omega arith) }
@@ -22,4 +16,4 @@ returns-3 : tie.Need-returns-3
 returns-3 c = record { room = λ h. omega arith; kept = λ h. (refl, refl) }
 
 pub make-room-spec : {M : Type 1} → statement M
-make-room-spec = tie.close (tie.spec write-requires returns write-requires-2 returns-2 returns-3)
+make-room-spec = tie.close (tie.spec (λ c κs. search needs) returns (λ c κs. search needs) returns-2 returns-3)

@@ -16,22 +16,10 @@ Inv-loop chunk₀ line₀ r₀ turns₀ chunk line r turns = Reached chunk₀ r�
 abbrev μ-loop : tie.MeasureT-loop
 μ-loop chunk₀ line₀ r₀ turns₀ chunk line r turns = turns
 
-fresh-requires : tie.Need-fresh-requires Inv-loop μ-loop
-fresh-requires c κs = search needs
-
 loop-holds : tie.Need-loop-holds Inv-loop μ-loop
 loop-holds c =
     let e = c .fresh .ensures in
     reached-first (c .before .args .chunk .now) (c .fresh .result) (ap (λ x. x .n) e) (ap (λ x. x .whole) e) (c .before .args .line .now) 18446744073709551615 (omega arith)
-
-step-requires : tie.Need-step-requires Inv-loop μ-loop
-step-requires c κs = search needs
-
-sub-turns : tie.Need-sub-turns Inv-loop μ-loop
-sub-turns c = search needs
-
-loop-less : tie.Need-loop-less Inv-loop μ-loop
-loop-less c = search needs
 
 loop-again : tie.Need-loop-again Inv-loop μ-loop
 loop-again c =
@@ -62,11 +50,11 @@ next-line-spec =
     (tie.spec
     Inv-loop
     μ-loop
-    fresh-requires
+    (λ c κs. search needs)
     loop-holds
-    step-requires
-    sub-turns
-    loop-less
+    (λ c κs. search needs)
+    (λ c. search needs)
+    (λ c. search needs)
     loop-again
     returns
     returns-2)

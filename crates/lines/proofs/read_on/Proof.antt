@@ -15,17 +15,8 @@ Inv-loop chunk line₀ end bytes at₀ n₀ line at n = Left (take end chunk) li
 abbrev μ-loop : tie.MeasureT-loop
 μ-loop chunk line₀ end bytes at₀ n₀ line at n = length bytes - at
 
-first-of-requires : tie.Need-first-of-requires Inv-loop μ-loop
-first-of-requires c κs = search needs
-
 loop-holds : tie.Need-loop-holds Inv-loop μ-loop
 loop-holds c = record { most = search needs; bytes = refl; at = refl; whole = refl }
-
-shared-slice-read-b : tie.Need-shared-slice-read-b Inv-loop μ-loop
-shared-slice-read-b c = search needs
-
-add-at : tie.Need-add-at Inv-loop μ-loop
-add-at c = search needs
 
 returns : tie.Need-returns Inv-loop μ-loop
 returns c =
@@ -34,12 +25,6 @@ returns c =
     let e = c .before .before .before .before .first-of .ensures in
     let h : l .at < length (take (a .input .end) (a .chunk .now)) = omega (arith, ap length e) in
     left-newline (a .chunk .now) (a .line .now) (a .input) (l .line) (l .at) (l .n) (l .inv) h (sym (ap (λ s. getD s (l .at) 0) e) ∙ c .if1 .taken)
-
-keep-requires : tie.Need-keep-requires Inv-loop μ-loop
-keep-requires c κs = search needs
-
-loop-less : tie.Need-loop-less Inv-loop μ-loop
-loop-less c = search needs
 
 loop-again : tie.Need-loop-again Inv-loop μ-loop
 loop-again c =
@@ -64,12 +49,12 @@ read-on-spec =
     (tie.spec
     Inv-loop
     μ-loop
-    first-of-requires
+    (λ c κs. search needs)
     loop-holds
-    shared-slice-read-b
-    add-at
+    (λ c. search needs)
+    (λ c. search needs)
     returns
-    keep-requires
-    loop-less
+    (λ c κs. search needs)
+    (λ c. search needs)
     loop-again
     returns-2)

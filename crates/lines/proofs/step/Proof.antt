@@ -5,17 +5,8 @@ use borrow.Author.Needs.{needs}
 use Rattle.lines.proofs.step.Statement.{statement}
 use Rattle.lines.proofs.step.Tie as tie
 
-read-on-requires : tie.Need-read-on-requires
-read-on-requires c κs = search needs
-
-returns : tie.Need-returns
-returns c = search needs
-
-fill-requires : tie.Need-fill-requires
-fill-requires c κs = search needs
-
 returns-2 : tie.Need-returns-2
 returns-2 c = record { most = search needs; same = λ h. absurd (omega arith); read = λ h. absurd (omega arith) }
 
 pub step-spec : {M : Type 1} → statement M
-step-spec = tie.close (tie.spec read-on-requires returns fill-requires returns-2)
+step-spec = tie.close (tie.spec (λ c κs. search needs) (λ c. search needs) (λ c κs. search needs) returns-2)

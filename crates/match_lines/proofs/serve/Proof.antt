@@ -10,49 +10,19 @@ Inv-loop chunk₀ line₀ out₀ masks rows lens sets ends input₀ output₀ tu
 abbrev μ-loop : tie.MeasureT-loop
 μ-loop chunk₀ line₀ out₀ masks rows lens sets ends input₀ output₀ turns₀ chunk line out input output turns = turns
 
-tables-of-requires : tie.Need-tables-of-requires Inv-loop μ-loop
-tables-of-requires c κs = search needs
-
-loop-holds : tie.Need-loop-holds Inv-loop μ-loop
-loop-holds c = search needs
-
-next-line-requires : tie.Need-next-line-requires Inv-loop μ-loop
-next-line-requires c κs = search needs
-
-returns : tie.Need-returns Inv-loop μ-loop
-returns c = search needs
-
-answer-requires : tie.Need-answer-requires Inv-loop μ-loop
-answer-requires c κs = search needs
-
-sub-turns : tie.Need-sub-turns Inv-loop μ-loop
-sub-turns c = search needs
-
-loop-less : tie.Need-loop-less Inv-loop μ-loop
-loop-less c = search needs
-
-loop-again : tie.Need-loop-again Inv-loop μ-loop
-loop-again c = search needs
-
-returns-2 : tie.Need-returns-2 Inv-loop μ-loop
-returns-2 c = search needs
-
-returns-3 : tie.Need-returns-3 Inv-loop μ-loop
-returns-3 c = search needs
-
 pub serve-spec : {M : Type 1} → statement M
 serve-spec =
     tie.close
     (tie.spec
     Inv-loop
     μ-loop
-    tables-of-requires
-    loop-holds
-    next-line-requires
-    returns
-    answer-requires
-    sub-turns
-    loop-less
-    loop-again
-    returns-2
-    returns-3)
+    (λ c κs. search needs)
+    (λ c. search needs)
+    (λ c κs. search needs)
+    (λ c. search needs)
+    (λ c κs. search needs)
+    (λ c. search needs)
+    (λ c. search needs)
+    (λ c. search needs)
+    (λ c. search needs)
+    (λ c. search needs))

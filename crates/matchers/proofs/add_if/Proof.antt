@@ -8,9 +8,6 @@ use borrow.Author.Needs.{needs}
 use Rattle.matchers.proofs.add_if.Statement.{statement}
 use Rattle.matchers.proofs.add_if.Tie as tie
 
-shl-result : tie.Need-shl-result
-shl-result c = search needs
-
 returns : tie.Need-returns
 returns c = λ k. rw (c .if1 .taken) (added (c .before .args .x) (c .before .args .p) (c .before .pre) k)
 
@@ -18,4 +15,4 @@ returns-2 : tie.Need-returns-2
 returns-2 c = λ k. rw (c .if1 .left) (sym (or-false (hasBit (c .before .args .x) k)))
 
 pub add-if-spec : {M : Type 1} → statement M
-add-if-spec = tie.close (tie.spec shl-result returns returns-2)
+add-if-spec = tie.close (tie.spec (λ c. search needs) returns returns-2)

@@ -5,9 +5,6 @@ use borrow.Author.Needs.{needs}
 use Rattle.matchers.proofs.alive_before.Statement.{statement}
 use Rattle.matchers.proofs.alive_before.Tie as tie
 
-leading-leaves-requires : tie.Need-leading-leaves-requires
-leading-leaves-requires c κs = search needs
-
 returns : tie.Need-returns
 returns c = λ leaves known p t. c .leading-leaves .ensures p
 
@@ -17,4 +14,4 @@ returns-2 c =
     λ leaves known. back-known leaves (a .alive) (a .ending) (a .sets .now) (a .mask) (a .leading) (known λ z. absurd (c .if1 .left z))
 
 pub alive-before-spec : {M : Type 1} → statement M
-alive-before-spec = tie.close (tie.spec leading-leaves-requires returns returns-2)
+alive-before-spec = tie.close (tie.spec (λ c κs. search needs) returns returns-2)

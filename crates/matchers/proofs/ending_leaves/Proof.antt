@@ -20,9 +20,6 @@ abbrev μ-loop : tie.MeasureT-loop
 loop-holds : tie.Need-loop-holds Inv-loop μ-loop
 loop-holds c = ending-begin (c .args .leaves) (c .args .ends .now)
 
-take-least-requires : tie.Need-take-least-requires Inv-loop μ-loop
-take-least-requires c κs = omega arith
-
 add-add-if : tie.Need-add-add-if Inv-loop μ-loop
 add-add-if c = omega (arith, c .take-least .ensures .below)
 
@@ -52,7 +49,7 @@ ending-leaves-spec =
     Inv-loop
     μ-loop
     loop-holds
-    take-least-requires
+    (λ c κs. omega arith)
     add-add-if
     element-copy-out-add-if
     add-if-requires

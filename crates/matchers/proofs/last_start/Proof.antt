@@ -19,9 +19,6 @@ Inv-loop line leaves ending masks sets keys₀ values₀ alive₀ leading₀ bes
 abbrev μ-loop : tie.MeasureT-loop
 μ-loop line leaves ending masks sets keys₀ values₀ alive₀ leading₀ best₀ i₀ keys values alive leading best i = i
 
-run-back-requires : tie.Need-run-back-requires Inv-loop μ-loop
-run-back-requires c κs = omega arith
-
 loop-holds : tie.Need-loop-holds Inv-loop μ-loop
 loop-holds c =
     let a = c .before .before .args in
@@ -33,38 +30,8 @@ loop-holds c =
       behind-begin (a .masks .now) (a .sets .now) (a .line .now) (a .leaves) (a .ending) _ (s .result) (λ none. known) (s .ensures),
     )
 
-sub-i : tie.Need-sub-i Inv-loop μ-loop
-sub-i c = search needs
-
-shared-slice-read-wide : tie.Need-shared-slice-read-wide Inv-loop μ-loop
-shared-slice-read-wide c = search needs
-
-wide-requires : tie.Need-wide-requires Inv-loop μ-loop
-wide-requires c κs = search needs
-
-mul-alive-before : tie.Need-mul-alive-before Inv-loop μ-loop
-mul-alive-before c = search needs
-
-element-copy-out-alive-before : tie.Need-element-copy-out-alive-before Inv-loop μ-loop
-element-copy-out-alive-before c = search needs
-
-alive-before-requires : tie.Need-alive-before-requires Inv-loop μ-loop
-alive-before-requires c κs = search needs
-
 recall-requires : tie.Need-recall-requires Inv-loop μ-loop
 recall-requires c κs = c .before .before .before .before .before .before .before .loop .inv .1
-
-run-back-requires-2 : tie.Need-run-back-requires-2 Inv-loop μ-loop
-run-back-requires-2 c κs = omega arith
-
-element-copy-out-wants : tie.Need-element-copy-out-wants Inv-loop μ-loop
-element-copy-out-wants c = search needs
-
-wants-requires : tie.Need-wants-requires Inv-loop μ-loop
-wants-requires c κs = search needs
-
-at-if-requires : tie.Need-at-if-requires Inv-loop μ-loop
-at-if-requires c κs = search needs
 
 loop-less : tie.Need-loop-less Inv-loop μ-loop
 loop-less c = omega (arith, c .before .before .before .run-back2 .ensures .within)
@@ -100,19 +67,19 @@ last-start-spec =
     (tie.spec
     Inv-loop
     μ-loop
-    run-back-requires
+    (λ c κs. omega arith)
     loop-holds
-    sub-i
-    shared-slice-read-wide
-    wide-requires
-    mul-alive-before
-    element-copy-out-alive-before
-    alive-before-requires
+    (λ c. search needs)
+    (λ c. search needs)
+    (λ c κs. search needs)
+    (λ c. search needs)
+    (λ c. search needs)
+    (λ c κs. search needs)
     recall-requires
-    run-back-requires-2
-    element-copy-out-wants
-    wants-requires
-    at-if-requires
+    (λ c κs. omega arith)
+    (λ c. search needs)
+    (λ c κs. search needs)
+    (λ c κs. search needs)
     loop-less
     loop-again
     returns)

@@ -21,20 +21,8 @@ abbrev μ-loop : tie.MeasureT-loop
 loop-holds : tie.Need-loop-holds Inv-loop μ-loop
 loop-holds c = leading-begin (c .args .leaves) (c .args .alive) (c .args .ending) (c .args .sets .now)
 
-take-least-requires : tie.Need-take-least-requires Inv-loop μ-loop
-take-least-requires c κs = omega arith
-
 add-wants : tie.Need-add-wants Inv-loop μ-loop
 add-wants c = omega (arith, c .take-least .ensures .below)
-
-mul-wants : tie.Need-mul-wants Inv-loop μ-loop
-mul-wants c = search needs
-
-element-copy-out-wants : tie.Need-element-copy-out-wants Inv-loop μ-loop
-element-copy-out-wants c = search needs
-
-wants-requires : tie.Need-wants-requires Inv-loop μ-loop
-wants-requires c κs = search needs
 
 add-if-requires : tie.Need-add-if-requires Inv-loop μ-loop
 add-if-requires c κs = c .before .before .take-least .ensures .below
@@ -59,11 +47,11 @@ leading-leaves-spec =
     Inv-loop
     μ-loop
     loop-holds
-    take-least-requires
+    (λ c κs. omega arith)
     add-wants
-    mul-wants
-    element-copy-out-wants
-    wants-requires
+    (λ c. search needs)
+    (λ c. search needs)
+    (λ c κs. search needs)
     add-if-requires
     loop-less
     loop-again

@@ -5,22 +5,10 @@ use borrow.Author.Needs.{needs}
 use Rattle.matchers.proofs.leftmost_start.Statement.{statement}
 use Rattle.matchers.proofs.leftmost_start.Tie as tie
 
-element-copy-out-if1 : tie.Need-element-copy-out-if1
-element-copy-out-if1 c = search needs
-
 returns : tie.Need-returns
 returns c =
     let a = c .before .before .before .args in
     start-empty (a .masks .now) (a .sets .now) (a .ends .now) (a .line .now) (c .if1 .taken)
-
-wanted-leaves-requires : tie.Need-wanted-leaves-requires
-wanted-leaves-requires c κs = search needs
-
-ending-leaves-requires : tie.Need-ending-leaves-requires
-ending-leaves-requires c κs = search needs
-
-last-start-requires : tie.Need-last-start-requires
-last-start-requires c κs = search needs
 
 returns-2 : tie.Need-returns-2
 returns-2 c = c .last-start .ensures (c .before .before .before .before .before .before .args .ends .now) (c .before .before .before .if1 .left) (c .before .before .wanted-leaves .ensures) (c .before .ending-leaves .ensures)
@@ -29,9 +17,9 @@ pub leftmost-start-spec : {M : Type 1} → statement M
 leftmost-start-spec =
     tie.close
     (tie.spec
-    element-copy-out-if1
+    (λ c. search needs)
     returns
-    wanted-leaves-requires
-    ending-leaves-requires
-    last-start-requires
+    (λ c κs. search needs)
+    (λ c κs. search needs)
+    (λ c κs. search needs)
     returns-2)

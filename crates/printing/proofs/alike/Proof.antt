@@ -6,18 +6,6 @@ use borrow.Author.Needs.{needs}
 use Rattle.printing.proofs.alike.Statement.{statement}
 use Rattle.printing.proofs.alike.Tie as tie
 
-slice-aggregate-put : tie.Need-slice-aggregate-put
-slice-aggregate-put c = search needs
-
-put-requires : tie.Need-put-requires
-put-requires c κs = search needs
-
-put-field-requires : tie.Need-put-field-requires
-put-field-requires c κs = search needs
-
-put-byte-requires : tie.Need-put-byte-requires
-put-byte-requires c κs = search needs
-
 returns : tie.Need-returns
 returns c =
     let f = c .before .before .put-field .ensures in (
@@ -29,4 +17,4 @@ returns c =
 pub alike-spec : {M : Type 1} → statement M
 alike-spec =
     tie.close
-    (tie.spec slice-aggregate-put put-requires put-field-requires put-byte-requires returns)
+    (tie.spec (λ c. search needs) (λ c κs. search needs) (λ c κs. search needs) (λ c κs. search needs) returns)

@@ -8,16 +8,10 @@ use Rattle.printing.proofs.Laws.{appended-join, same-put}
 use Rattle.printing.proofs.bytes.Statement.{statement}
 use Rattle.printing.proofs.bytes.Tie as tie
 
-put-hex-requires : tie.Need-put-hex-requires
-put-hex-requires c κs = search needs
-
-put-byte-requires : tie.Need-put-byte-requires
-put-byte-requires c κs = search needs
-
 returns : tie.Need-returns
 returns c =
     let s = c .before .before .before .before .before .args .s .now in
     appended-join (same-put (c .before .before .put-hex .ensures) (ap hex (take-length s))) (c .put-byte .ensures) .appended
 
 pub bytes-spec : {M : Type 1} → statement M
-bytes-spec = tie.close (tie.spec put-hex-requires put-byte-requires returns)
+bytes-spec = tie.close (tie.spec (λ c κs. search needs) (λ c κs. search needs) returns)

@@ -6,15 +6,6 @@ use Rattle.printing.proofs.Laws.{appended-join}
 use Rattle.printing.proofs.explained.Statement.{statement}
 use Rattle.printing.proofs.explained.Tie as tie
 
-put-unlike-requires : tie.Need-put-unlike-requires
-put-unlike-requires c κs = search needs
-
-put-byte-requires : tie.Need-put-byte-requires
-put-byte-requires c κs = search needs
-
-put-spans-requires : tie.Need-put-spans-requires
-put-spans-requires c κs = search needs
-
 returns : tie.Need-returns
 returns c =
     let v = c .before .before .before .before .put-unlike .ensures in
@@ -26,4 +17,4 @@ returns c =
 
 pub explained-spec : {M : Type 1} → statement M
 explained-spec =
-    tie.close (tie.spec put-unlike-requires put-byte-requires put-spans-requires returns)
+    tie.close (tie.spec (λ c κs. search needs) (λ c κs. search needs) (λ c κs. search needs) returns)

@@ -7,15 +7,6 @@ use Rattle.printing.proofs.Laws.{put-one, put-full}
 use Rattle.printing.proofs.put_byte.Statement.{statement}
 use Rattle.printing.proofs.put_byte.Tie as tie
 
-size-requires : tie.Need-size-requires
-size-requires c κs = search needs
-
-element-write-out : tie.Need-element-write-out
-element-write-out c = search needs
-
-add-result : tie.Need-add-result
-add-result c = search needs
-
 returns : tie.Need-returns
 returns c = let a = c .before .before .before .args in put-one (a .out .now) (a .n) (a .b) (omega arith)
 
@@ -26,4 +17,4 @@ returns-2 c =
     put-full (a .out .now) (a .n) (end .result) (a .b ∷ []) (omega arith) (end .ensures .1)
 
 pub put-byte-spec : {M : Type 1} → statement M
-put-byte-spec = tie.close (tie.spec size-requires element-write-out add-result returns returns-2)
+put-byte-spec = tie.close (tie.spec (λ c κs. search needs) (λ c. search needs) (λ c. search needs) returns returns-2)

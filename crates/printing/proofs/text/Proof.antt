@@ -5,14 +5,8 @@ use Rattle.printing.proofs.Laws.{appended-join}
 use Rattle.printing.proofs.text.Statement.{statement}
 use Rattle.printing.proofs.text.Tie as tie
 
-put-requires : tie.Need-put-requires
-put-requires c κs = search needs
-
-put-byte-requires : tie.Need-put-byte-requires
-put-byte-requires c κs = search needs
-
 returns : tie.Need-returns
 returns c = appended-join (c .before .before .put .ensures) (c .put-byte .ensures) .appended
 
 pub text-spec : {M : Type 1} → statement M
-text-spec = tie.close (tie.spec put-requires put-byte-requires returns)
+text-spec = tie.close (tie.spec (λ c κs. search needs) (λ c κs. search needs) returns)

@@ -13,14 +13,5 @@ use Rattle.read_patterns.proofs.show.Reads as show-reads
 slice-aggregate-show : tie.Need-slice-aggregate-show
 slice-aggregate-show c = sym (length-take-le _ _ (omega arith))
 
-show-requires : tie.Need-show-requires
-show-requires c κs = search needs
-
-returns : tie.Need-returns
-returns c = search needs
-
-returns-2 : tie.Need-returns-2
-returns-2 c = search needs
-
 pub show-first-spec : {M : Type 1} → statement M
-show-first-spec = tie.close (tie.spec slice-aggregate-show show-requires returns returns-2)
+show-first-spec = tie.close (tie.spec slice-aggregate-show (λ c κs. search needs) (λ c. search needs) (λ c. search needs))

@@ -72,62 +72,23 @@ callees-atom t = (leaf-reads.Asked, leaf-reads.Learnt, refused-reads.Asked, refu
 abbrev callees-sequence : ℕ → sequence-lts.Claims
 callees-sequence t = (found-reads.Asked, found-reads.Learnt, atom-below t, atom.Post, repeat-reads.Asked, repeat-reads.Learnt, sequence-below t, sequence.Post, push-if-more-reads.Asked, push-if-more-reads.Learnt, plus-reads.Asked, plus-reads.Learnt)
 
-alternation-sequence-requires : (t : ℕ) → alternation-lts.Need-sequence-requires (callees-alternation t) (alternation-at t) alternation.Post
-alternation-sequence-requires t c κs = search needs
-
-alternation-enum-known-part : (t : ℕ) → alternation-lts.Need-enum-known-part (callees-alternation t) (alternation-at t) alternation.Post
-alternation-enum-known-part t c = search needs
-
-alternation-enum-told : (t : ℕ) → alternation-lts.Need-enum-told (callees-alternation t) (alternation-at t) alternation.Post
-alternation-enum-told t c = search needs
-
 alternation-returns : (t : ℕ) → alternation-lts.Need-returns (callees-alternation t) (alternation-at t) alternation.Post
 alternation-returns t c = passed-on _ (c .enum-told .given .1) (c .before .before .sequence .ensures)
-
-alternation-push-if-empty-requires : (t : ℕ) → alternation-lts.Need-push-if-empty-requires (callees-alternation t) (alternation-at t) alternation.Post
-alternation-push-if-empty-requires t c κs = search needs
-
-alternation-one-at-least-requires : (t : ℕ) → alternation-lts.Need-one-at-least-requires (callees-alternation t) (alternation-at t) alternation.Post
-alternation-one-at-least-requires t c κs = search needs
-
-alternation-shared-slice-read-if2 : (t : ℕ) → alternation-lts.Need-shared-slice-read-if2 (callees-alternation t) (alternation-at t) alternation.Post
-alternation-shared-slice-read-if2 t c = search needs
-
-alternation-add-alternation : (t : ℕ) → alternation-lts.Need-add-alternation (callees-alternation t) (alternation-at t) alternation.Post
-alternation-add-alternation t c = search needs
 
 alternation-alternation-requires : (t : ℕ) → alternation-lts.Need-alternation-requires (callees-alternation t) (alternation-at t) alternation.Post
 alternation-alternation-requires t c κs = (omega (arith, (known (c .before .before .before .before .before .before .before .before .part .given .1) (c .before .before .before .before .before .before .before .before .before .before .sequence .ensures)) .forward), begun-bar (c .before .before .before .before .before .before .before .before .before .before .before .before .before .pre .1) (known (c .before .before .before .before .before .before .before .before .part .given .1) (c .before .before .before .before .before .before .before .before .before .before .sequence .ensures)) (c .before .before .before .if1 .taken) (c .before .if2 .taken))
 
-alternation-enum-known-more : (t : ℕ) → alternation-lts.Need-enum-known-more (callees-alternation t) (alternation-at t) alternation.Post
-alternation-enum-known-more t c = search needs
-
-alternation-enum-told-2 : (t : ℕ) → alternation-lts.Need-enum-told-2 (callees-alternation t) (alternation-at t) alternation.Post
-alternation-enum-told-2 t c = search needs
-
 alternation-returns-2 : (t : ℕ) → alternation-lts.Need-returns-2 (callees-alternation t) (alternation-at t) alternation.Post
 alternation-returns-2 t c = passed-on _ (c .enum-told2 .given .1) (c .before .before .alternation .ensures)
-
-alternation-push-requires : (t : ℕ) → alternation-lts.Need-push-requires (callees-alternation t) (alternation-at t) alternation.Post
-alternation-push-requires t c κs = search needs
 
 alternation-plus-requires : (t : ℕ) → alternation-lts.Need-plus-requires (callees-alternation t) (alternation-at t) alternation.Post
 alternation-plus-requires t c κs = omega (arith, weighs-65 ((known (c .before .before .before .before .before .before .before .before .before .before .before .before .before .before .part .given .1) (c .before .before .before .before .before .before .before .before .before .before .before .before .before .before .before .before .sequence .ensures)) .load), weighs-65 ((known (c .before .before .before .more .given .1) (c .before .before .before .before .before .alternation .ensures)) .load), c .before .before .before .before .before .before .before .before .before .before .one-at-least .ensures)
 
-alternation-found-requires : (t : ℕ) → alternation-lts.Need-found-requires (callees-alternation t) (alternation-at t) alternation.Post
-alternation-found-requires t c κs = search needs
-
 alternation-returns-3 : (t : ℕ) → alternation-lts.Need-returns-3 (callees-alternation t) (alternation-at t) alternation.Post
 alternation-returns-3 t c = rw (c .found .ensures) (found-part (alternation-or _ _ (known (c .before .before .before .before .before .before .before .before .before .before .before .before .before .before .before .before .part .given .1) (c .before .before .before .before .before .before .before .before .before .before .before .before .before .before .before .before .before .before .sequence .ensures)) (c .before .before .before .before .before .before .before .before .before .before .before .before .before .push-if-empty .ensures .added) (c .before .before .before .before .before .before .before .before .before .before .before .before .before .push-if-empty .ensures .kept) (c .before .before .before .before .before .before .before .before .before .before .before .before .one-at-least .ensures) (c .before .before .before .before .before .before .before .before .before .before .before .if1 .taken) (c .before .before .before .before .before .before .before .before .before .if2 .taken) (known (c .before .before .before .before .before .more .given .1) (c .before .before .before .before .before .before .before .alternation .ensures)) (c .before .before .push .ensures) (c .before .plus .ensures)))
 
-alternation-found-requires-2 : (t : ℕ) → alternation-lts.Need-found-requires-2 (callees-alternation t) (alternation-at t) alternation.Post
-alternation-found-requires-2 t c κs = search needs
-
 alternation-returns-4 : (t : ℕ) → alternation-lts.Need-returns-4 (callees-alternation t) (alternation-at t) alternation.Post
 alternation-returns-4 t c = rw (c .found2 .ensures) (found-part (alternation-last _ (known (c .before .before .before .before .before .before .part .given .1) (c .before .before .before .before .before .before .before .before .sequence .ensures)) (c .before .before .before .push-if-empty .ensures .added) (c .before .before .before .push-if-empty .ensures .kept) (c .before .before .one-at-least .ensures) (λ h. either (λ x. x .2 .left) (λ x. absurd (omega (arith, x .left))) (c .before .if1 .came))))
-
-atom-shared-slice-read-b : (t : ℕ) → atom-lts.Need-shared-slice-read-b (callees-atom t) (atom-at t) atom.Post
-atom-shared-slice-read-b t c = search needs
 
 atom-leaf-requires : (t : ℕ) → atom-lts.Need-leaf-requires (callees-atom t) (atom-at t) atom.Post
 atom-leaf-requires t c κs = (c .before .before .before .before .pre .1 .0, c .before .before .before .before .pre .1 .1, c .before .if1 .taken)
@@ -135,14 +96,8 @@ atom-leaf-requires t c κs = (c .before .before .before .before .pre .1 .0, c .b
 atom-returns : (t : ℕ) → atom-lts.Need-returns (callees-atom t) (atom-at t) atom.Post
 atom-returns t c = c .leaf .ensures
 
-atom-refused-requires : (t : ℕ) → atom-lts.Need-refused-requires (callees-atom t) (atom-at t) atom.Post
-atom-refused-requires t c κs = search needs
-
 atom-returns-2 : (t : ℕ) → atom-lts.Need-returns-2 (callees-atom t) (atom-at t) atom.Post
 atom-returns-2 t c = rw (c .refused .ensures) (found-fault (fault-deep (c .before .before .before .before .before .pre .1 .0) (c .before .before .before .before .before .pre .1 .1 .before) (c .before .before .if1 .left) (c .before .if2 .taken)))
-
-atom-add-alternation : (t : ℕ) → atom-lts.Need-add-alternation (callees-atom t) (atom-at t) atom.Post
-atom-add-alternation t c = search needs
 
 atom-add-alternation-2 : (t : ℕ) → atom-lts.Need-add-alternation-2 (callees-atom t) (atom-at t) atom.Post
 atom-add-alternation-2 t c = omega (arith, depth-max (c .before .before .before .before .pre .1 .0))
@@ -150,17 +105,8 @@ atom-add-alternation-2 t c = omega (arith, depth-max (c .before .before .before 
 atom-alternation-requires : (t : ℕ) → atom-lts.Need-alternation-requires (callees-atom t) (atom-at t) atom.Post
 atom-alternation-requires t c κs = (omega arith, begun-open (c .before .before .before .before .before .pre .1 .0) (c .before .before .before .before .before .pre .1 .1 .before) (c .before .before .if1 .left) (c .before .if2 .left))
 
-atom-enum-known-part : (t : ℕ) → atom-lts.Need-enum-known-part (callees-atom t) (atom-at t) atom.Post
-atom-enum-known-part t c = search needs
-
-atom-enum-told : (t : ℕ) → atom-lts.Need-enum-told (callees-atom t) (atom-at t) atom.Post
-atom-enum-told t c = search needs
-
 atom-returns-3 : (t : ℕ) → atom-lts.Need-returns-3 (callees-atom t) (atom-at t) atom.Post
 atom-returns-3 t c = passed-on _ (c .enum-told .given .1) (c .before .before .alternation .ensures)
-
-atom-refused-requires-2 : (t : ℕ) → atom-lts.Need-refused-requires-2 (callees-atom t) (atom-at t) atom.Post
-atom-refused-requires-2 t c κs = search needs
 
 atom-returns-4 : (t : ℕ) → atom-lts.Need-returns-4 (callees-atom t) (atom-at t) atom.Post
 atom-returns-4 t c = rw (c .refused2 .ensures) (found-fault (fault-open (c .before .before .before .before .before .before .before .before .before .before .before .pre .1 .0) (c .before .before .before .before .before .before .before .before .before .before .before .pre .1 .1 .before) (c .before .before .before .before .before .before .before .before .if1 .left) (c .before .before .before .before .before .before .before .if2 .left) (known (c .before .before .before .part .given .1) (c .before .before .before .before .before .alternation .ensures)) (c .before .if3 .taken)))
@@ -168,29 +114,14 @@ atom-returns-4 t c = rw (c .refused2 .ensures) (found-fault (fault-open (c .befo
 atom-add-found : (t : ℕ) → atom-lts.Need-add-found (callees-atom t) (atom-at t) atom.Post
 atom-add-found t c = omega (arith, (known (c .before .before .part .given .1) (c .before .before .before .before .alternation .ensures)) .inside)
 
-atom-found-requires : (t : ℕ) → atom-lts.Need-found-requires (callees-atom t) (atom-at t) atom.Post
-atom-found-requires t c κs = search needs
-
 atom-returns-5 : (t : ℕ) → atom-lts.Need-returns-5 (callees-atom t) (atom-at t) atom.Post
 atom-returns-5 t c = rw (c .found .ensures) (found-part (group-here (c .before .before .before .before .before .before .before .before .before .before .before .pre .1 .0) (c .before .before .before .before .before .before .before .before .before .before .before .pre .1 .1 .before) (c .before .before .before .before .before .before .before .before .if1 .left) (known (c .before .before .before .part .given .1) (c .before .before .before .before .before .alternation .ensures)) (c .before .if3 .left)))
-
-sequence-found-requires : (t : ℕ) → sequence-lts.Need-found-requires (callees-sequence t) (sequence-at t) sequence.Post
-sequence-found-requires t c κs = search needs
 
 sequence-returns : (t : ℕ) → sequence-lts.Need-returns (callees-sequence t) (sequence-at t) sequence.Post
 sequence-returns t c = rw (c .found .ensures) (found-part (sequence-stop (c .before .before .before .pre .1) (λ l n. absurd (omega arith))))
 
-sequence-shared-slice-read-b : (t : ℕ) → sequence-lts.Need-shared-slice-read-b (callees-sequence t) (sequence-at t) sequence.Post
-sequence-shared-slice-read-b t c = search needs
-
-sequence-found-requires-2 : (t : ℕ) → sequence-lts.Need-found-requires-2 (callees-sequence t) (sequence-at t) sequence.Post
-sequence-found-requires-2 t c κs = search needs
-
 sequence-returns-2 : (t : ℕ) → sequence-lts.Need-returns-2 (callees-sequence t) (sequence-at t) sequence.Post
 sequence-returns-2 t c = rw (c .found2 .ensures) (found-part (sequence-stop (c .before .before .before .before .before .pre .1) (λ l n. absurd (n (c .before .if2 .taken)))))
-
-sequence-found-requires-3 : (t : ℕ) → sequence-lts.Need-found-requires-3 (callees-sequence t) (sequence-at t) sequence.Post
-sequence-found-requires-3 t c κs = search needs
 
 sequence-returns-3 : (t : ℕ) → sequence-lts.Need-returns-3 (callees-sequence t) (sequence-at t) sequence.Post
 sequence-returns-3 t c = rw (c .found3 .ensures) (found-part (sequence-stop (c .before .before .before .before .before .before .pre .1) (λ l n. c .before .if3 .taken)))
@@ -198,23 +129,11 @@ sequence-returns-3 t c = rw (c .found3 .ensures) (found-part (sequence-stop (c .
 sequence-atom-requires : (t : ℕ) → sequence-lts.Need-atom-requires (callees-sequence t) (sequence-at t) sequence.Post
 sequence-atom-requires t c κs = (omega arith, (c .before .before .before .before .before .before .pre .1, record { before = omega arith; noBar = c .before .before .if2 .left; noClose = c .before .if3 .left }))
 
-sequence-enum-known-part : (t : ℕ) → sequence-lts.Need-enum-known-part (callees-sequence t) (sequence-at t) sequence.Post
-sequence-enum-known-part t c = search needs
-
-sequence-enum-told : (t : ℕ) → sequence-lts.Need-enum-told (callees-sequence t) (sequence-at t) sequence.Post
-sequence-enum-told t c = search needs
-
 sequence-returns-4 : (t : ℕ) → sequence-lts.Need-returns-4 (callees-sequence t) (sequence-at t) sequence.Post
 sequence-returns-4 t c = passed-on _ (c .enum-told .given .1) (c .before .before .atom .ensures)
 
 sequence-repeat-requires : (t : ℕ) → sequence-lts.Need-repeat-requires (callees-sequence t) (sequence-at t) sequence.Post
 sequence-repeat-requires t c κs = (ready-atom (c .before .before .before .before .before .before .before .before .before .before .before .pre .1) (known (c .before .before .part .given .1) (c .before .before .before .before .atom .ensures)), weighs-65 ((known (c .before .before .part .given .1) (c .before .before .before .before .atom .ensures)) .load))
-
-sequence-enum-known-repeated : (t : ℕ) → sequence-lts.Need-enum-known-repeated (callees-sequence t) (sequence-at t) sequence.Post
-sequence-enum-known-repeated t c = search needs
-
-sequence-enum-told-2 : (t : ℕ) → sequence-lts.Need-enum-told-2 (callees-sequence t) (sequence-at t) sequence.Post
-sequence-enum-told-2 t c = search needs
 
 sequence-returns-5 : (t : ℕ) → sequence-lts.Need-returns-5 (callees-sequence t) (sequence-at t) sequence.Post
 sequence-returns-5 t c = passed-on _ (c .enum-told2 .given .1) (c .before .before .repeat .ensures)
@@ -222,23 +141,11 @@ sequence-returns-5 t c = passed-on _ (c .enum-told2 .given .1) (c .before .befor
 sequence-sequence-requires : (t : ℕ) → sequence-lts.Need-sequence-requires (callees-sequence t) (sequence-at t) sequence.Post
 sequence-sequence-requires t c κs = (omega (arith, (known (c .before .before .before .before .before .before .before .part .given .1) (c .before .before .before .before .before .before .before .before .before .atom .ensures)) .forward, (known (c .before .before .repeated .given .1) (c .before .before .before .before .repeat .ensures)) .forward), begun-part (c .before .before .before .before .before .before .before .before .before .before .before .before .before .before .before .before .pre .1) (known (c .before .before .before .before .before .before .before .part .given .1) (c .before .before .before .before .before .before .before .before .before .atom .ensures)) (known (c .before .before .repeated .given .1) (c .before .before .before .before .repeat .ensures)))
 
-sequence-enum-known-more : (t : ℕ) → sequence-lts.Need-enum-known-more (callees-sequence t) (sequence-at t) sequence.Post
-sequence-enum-known-more t c = search needs
-
-sequence-enum-told-3 : (t : ℕ) → sequence-lts.Need-enum-told-3 (callees-sequence t) (sequence-at t) sequence.Post
-sequence-enum-told-3 t c = search needs
-
 sequence-returns-6 : (t : ℕ) → sequence-lts.Need-returns-6 (callees-sequence t) (sequence-at t) sequence.Post
 sequence-returns-6 t c = passed-on _ (c .enum-told3 .given .1) (c .before .before .sequence .ensures)
 
-sequence-push-if-more-requires : (t : ℕ) → sequence-lts.Need-push-if-more-requires (callees-sequence t) (sequence-at t) sequence.Post
-sequence-push-if-more-requires t c κs = search needs
-
 sequence-plus-requires : (t : ℕ) → sequence-lts.Need-plus-requires (callees-sequence t) (sequence-at t) sequence.Post
 sequence-plus-requires t c κs = (weighs-65 ((known (c .before .before .before .before .before .before .before .before .repeated .given .1) (c .before .before .before .before .before .before .before .before .before .before .repeat .ensures)) .load _ _ (atom-heaviest ((known (c .before .before .before .before .before .before .before .before .before .before .before .before .before .part .given .1) (c .before .before .before .before .before .before .before .before .before .before .before .before .before .before .before .atom .ensures)) .x)) ((known (c .before .before .before .before .before .before .before .before .before .before .before .before .before .part .given .1) (c .before .before .before .before .before .before .before .before .before .before .before .before .before .before .before .atom .ensures)) .load)), weighs-65 ((known (c .before .before .before .more .given .1) (c .before .before .before .before .before .sequence .ensures)) .load))
-
-sequence-found-requires-4 : (t : ℕ) → sequence-lts.Need-found-requires-4 (callees-sequence t) (sequence-at t) sequence.Post
-sequence-found-requires-4 t c κs = search needs
 
 sequence-returns-7 : (t : ℕ) → sequence-lts.Need-returns-7 (callees-sequence t) (sequence-at t) sequence.Post
 sequence-returns-7 t c = rw (c .found4 .ensures) (found-part (sequence-part _ (known (c .before .before .before .before .before .before .before .before .before .before .before .before .before .before .before .part .given .1) (c .before .before .before .before .before .before .before .before .before .before .before .before .before .before .before .before .before .atom .ensures)) (known (c .before .before .before .before .before .before .before .before .before .before .repeated .given .1) (c .before .before .before .before .before .before .before .before .before .before .before .before .repeat .ensures)) (known (c .before .before .before .before .before .more .given .1) (c .before .before .before .before .before .before .before .sequence .ensures)) (c .before .before .push-if-more .ensures .added) (λ e. c .before .before .push-if-more .ensures .kept (λ n. n e)) (c .before .plus .ensures)))
@@ -246,64 +153,64 @@ sequence-returns-7 t c = rw (c .found4 .ensures) (found-part (sequence-part _ (k
 pub +alternation+atom+sequence-spec : {M : Type 1} → statement M
 +alternation+atom+sequence-spec = close μ-alternation μ-atom μ-sequence (λ t. alternation-lts.spec (callees-alternation t) (alternation-at t)
     alternation.Post
-    (alternation-sequence-requires t)
-    (alternation-enum-known-part t)
-    (alternation-enum-told t)
+    (λ c κs. search needs)
+    (λ c. search needs)
+    (λ c. search needs)
     (alternation-returns t)
-    (alternation-push-if-empty-requires t)
-    (alternation-one-at-least-requires t)
-    (alternation-shared-slice-read-if2 t)
-    (alternation-add-alternation t)
+    (λ c κs. search needs)
+    (λ c κs. search needs)
+    (λ c. search needs)
+    (λ c. search needs)
     (alternation-alternation-requires t)
-    (alternation-enum-known-more t)
-    (alternation-enum-told-2 t)
+    (λ c. search needs)
+    (λ c. search needs)
     (alternation-returns-2 t)
-    (alternation-push-requires t)
+    (λ c κs. search needs)
     (alternation-plus-requires t)
-    (alternation-found-requires t)
+    (λ c κs. search needs)
     (alternation-returns-3 t)
-    (alternation-found-requires-2 t)
+    (λ c κs. search needs)
     (alternation-returns-4 t))
     (λ t. atom-lts.spec (callees-atom t) (atom-at t)
     atom.Post
-    (atom-shared-slice-read-b t)
+    (λ c. search needs)
     (atom-leaf-requires t)
     (atom-returns t)
-    (atom-refused-requires t)
+    (λ c κs. search needs)
     (atom-returns-2 t)
-    (atom-add-alternation t)
+    (λ c. search needs)
     (atom-add-alternation-2 t)
     (atom-alternation-requires t)
-    (atom-enum-known-part t)
-    (atom-enum-told t)
+    (λ c. search needs)
+    (λ c. search needs)
     (atom-returns-3 t)
-    (atom-refused-requires-2 t)
+    (λ c κs. search needs)
     (atom-returns-4 t)
     (atom-add-found t)
-    (atom-found-requires t)
+    (λ c κs. search needs)
     (atom-returns-5 t))
     λ t. sequence-lts.spec (callees-sequence t) (sequence-at t)
     sequence.Post
-    (sequence-found-requires t)
+    (λ c κs. search needs)
     (sequence-returns t)
-    (sequence-shared-slice-read-b t)
-    (sequence-found-requires-2 t)
+    (λ c. search needs)
+    (λ c κs. search needs)
     (sequence-returns-2 t)
-    (sequence-found-requires-3 t)
+    (λ c κs. search needs)
     (sequence-returns-3 t)
     (sequence-atom-requires t)
-    (sequence-enum-known-part t)
-    (sequence-enum-told t)
+    (λ c. search needs)
+    (λ c. search needs)
     (sequence-returns-4 t)
     (sequence-repeat-requires t)
-    (sequence-enum-known-repeated t)
-    (sequence-enum-told-2 t)
+    (λ c. search needs)
+    (λ c. search needs)
     (sequence-returns-5 t)
     (sequence-sequence-requires t)
-    (sequence-enum-known-more t)
-    (sequence-enum-told-3 t)
+    (λ c. search needs)
+    (λ c. search needs)
     (sequence-returns-6 t)
-    (sequence-push-if-more-requires t)
+    (λ c κs. search needs)
     (sequence-plus-requires t)
-    (sequence-found-requires-4 t)
+    (λ c κs. search needs)
     (sequence-returns-7 t)

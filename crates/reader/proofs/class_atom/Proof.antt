@@ -16,29 +16,11 @@ use Rattle.reader.proofs.push_leaf.Reads as push-leaf-reads
 use Rattle.scanner.proofs.read_class.Reads as read-class-reads
 use Rattle.reader.proofs.refused.Reads as refused-reads
 
-add-read-class : tie.Need-add-read-class
-add-read-class c = search needs
-
-read-class-requires : tie.Need-read-class-requires
-read-class-requires c κs = search needs
-
-enum-known-class : tie.Need-enum-known-class
-enum-known-class c = search needs
-
-enum-told : tie.Need-enum-told
-enum-told c = search needs
-
-refused-requires : tie.Need-refused-requires
-refused-requires c κs = search needs
-
 returns : tie.Need-returns
 returns c = rw (c .refused .ensures) (found-fault (fault-class (c .before .before .before .before .before .pre .0) (c .before .before .before .before .before .pre .1) (c .before .before .before .before .before .pre .2) (class-none _ _ _ (c .before .enum-told .given .1) (c .before .before .before .read-class .ensures))))
 
 push-leaf-requires : tie.Need-push-leaf-requires
 push-leaf-requires c κs = omega (arith, c .before .before .before .before .before .before .pre .0 .begin .short)
-
-found-requires : tie.Need-found-requires
-found-requires c κs = search needs
 
 returns-2 : tie.Need-returns-2
 returns-2 c = rw (c .found .ensures) (found-part (let (a, f, o) = class-ends _ _ _ (c .before .before .before .before .class .given .1) (c .before .before .before .before .before .before .read-class .ensures) in class-here (c .before .before .before .before .before .before .before .before .pre .0) (c .before .before .before .before .before .before .before .before .pre .1) (c .before .push-leaf .ensures) a (c .before .before .before .before .before .before .before .before .pre .2) f o))
@@ -47,12 +29,12 @@ pub class-atom-spec : {M : Type 1} → statement M
 class-atom-spec =
     tie.close
     (tie.spec
-    add-read-class
-    read-class-requires
-    enum-known-class
-    enum-told
-    refused-requires
+    (λ c. search needs)
+    (λ c κs. search needs)
+    (λ c. search needs)
+    (λ c. search needs)
+    (λ c κs. search needs)
     returns
     push-leaf-requires
-    found-requires
+    (λ c κs. search needs)
     returns-2)

@@ -19,29 +19,8 @@ use Rattle.tokens.proofs.at_least.Reads as at-least-reads
 use Rattle.tokens.proofs.between.Reads as between-reads
 use Rattle.tokens.proofs.exactly.Reads as exactly-reads
 
-add-read-count : tie.Need-add-read-count
-add-read-count c = search needs
-
-read-count-requires : tie.Need-read-count-requires
-read-count-requires c κs = search needs
-
-enum-known-count : tie.Need-enum-known-count
-enum-known-count c = search needs
-
-exactly-requires : tie.Need-exactly-requires
-exactly-requires c κs = search needs
-
 load-requires : tie.Need-load-requires
 load-requires c κs = omega (arith, exactly-63 _ _ _ (c .before .before .before .count .given .1) (c .before .before .before .before .before .read-count .ensures))
-
-found-requires : tie.Need-found-requires
-found-requires c κs = search needs
-
-enum-known-count-2 : tie.Need-enum-known-count-2
-enum-known-count-2 c = search needs
-
-at-least-requires : tie.Need-at-least-requires
-at-least-requires c κs = search needs
 
 add-load : tie.Need-add-load
 add-load c = omega (arith, atLeast-63 _ _ _ (c .before .before .before .count2 .given .1) (c .before .before .before .before .before .read-count .ensures))
@@ -49,26 +28,8 @@ add-load c = omega (arith, atLeast-63 _ _ _ (c .before .before .before .count2 .
 load-requires-2 : tie.Need-load-requires-2
 load-requires-2 c κs = omega (arith, atLeast-63 _ _ _ (c .before .before .before .count2 .given .1) (c .before .before .before .before .before .read-count .ensures))
 
-found-requires-2 : tie.Need-found-requires-2
-found-requires-2 c κs = search needs
-
-enum-known-count-3 : tie.Need-enum-known-count-3
-enum-known-count-3 c = search needs
-
-between-requires : tie.Need-between-requires
-between-requires c κs = search needs
-
 load-requires-3 : tie.Need-load-requires-3
 load-requires-3 c κs = omega (arith, between-63 _ _ _ (c .before .before .before .count3 .given .1) (c .before .before .before .before .before .read-count .ensures))
-
-found-requires-3 : tie.Need-found-requires-3
-found-requires-3 c κs = search needs
-
-enum-told : tie.Need-enum-told
-enum-told c = search needs
-
-refused-requires : tie.Need-refused-requires
-refused-requires c κs = search needs
 
 returns : tie.Need-returns
 returns c = rw (c .found .ensures) (found-part (let (d, f, g, o) = count-exactly _ _ _ (c .before .before .before .before .before .count .given .1) (c .before .before .before .before .before .before .before .read-count .ensures) in exactly-here (c .before .before .before .before .before .before .before .before .before .pre .1) (c .before .before .before .before .before .before .before .before .before .pre .2) o d _ _ f g (c .before .load .ensures) (c .before .before .exactly .ensures)))
@@ -86,23 +47,23 @@ pub counted-spec : {M : Type 1} → statement M
 counted-spec =
     tie.close
     (tie.spec
-    add-read-count
-    read-count-requires
-    enum-known-count
-    exactly-requires
+    (λ c. search needs)
+    (λ c κs. search needs)
+    (λ c. search needs)
+    (λ c κs. search needs)
     load-requires
-    found-requires
-    enum-known-count-2
-    at-least-requires
+    (λ c κs. search needs)
+    (λ c. search needs)
+    (λ c κs. search needs)
     add-load
     load-requires-2
-    found-requires-2
-    enum-known-count-3
-    between-requires
+    (λ c κs. search needs)
+    (λ c. search needs)
+    (λ c κs. search needs)
     load-requires-3
-    found-requires-3
-    enum-told
-    refused-requires
+    (λ c κs. search needs)
+    (λ c. search needs)
+    (λ c κs. search needs)
     returns
     returns-2
     returns-3

@@ -15,38 +15,14 @@ use Rattle.reader.proofs.push_leaf.Reads as push-leaf-reads
 use Rattle.reader.proofs.refused.Reads as refused-reads
 use Rattle.scanner.proofs.is_special.Reads as is-special-reads
 
-add-if1 : tie.Need-add-if1
-add-if1 c = search needs
-
-refused-requires : tie.Need-refused-requires
-refused-requires c κs = search needs
-
 returns : tie.Need-returns
 returns c = rw (c .refused .ensures) (found-fault (fault-escape-last (c .before .before .before .pre .0) (c .before .before .before .pre .1) (c .before .before .before .pre .2) (c .before .if1 .taken)))
-
-add-is-special : tie.Need-add-is-special
-add-is-special c = search needs
-
-shared-slice-read-is-special : tie.Need-shared-slice-read-is-special
-shared-slice-read-is-special c = search needs
-
-is-special-requires : tie.Need-is-special-requires
-is-special-requires c κs = search needs
 
 push-leaf-requires : tie.Need-push-leaf-requires
 push-leaf-requires c κs = omega (arith, c .before .before .before .before .before .before .pre .0 .begin .short)
 
-add-found : tie.Need-add-found
-add-found c = search needs
-
-found-requires : tie.Need-found-requires
-found-requires c κs = search needs
-
 returns-2 : tie.Need-returns-2
 returns-2 c = rw (c .found .ensures) (found-part (escaped-here (c .before .before .before .before .before .before .before .before .pre .0) (c .before .before .before .before .before .before .before .before .pre .1) (c .before .push-leaf .ensures) (c .before .before .before .before .before .before .before .before .pre .2) (c .before .before .before .before .before .before .if1 .left) (sym (c .before .before .before .if2 .taken) ∙ c .before .before .before .before .is-special .ensures)))
-
-refused-requires-2 : tie.Need-refused-requires-2
-refused-requires-2 c κs = search needs
 
 returns-3 : tie.Need-returns-3
 returns-3 c = rw (c .refused2 .ensures) (found-fault (fault-escape (c .before .before .before .before .before .before .pre .0) (c .before .before .before .before .before .before .pre .1) (c .before .before .before .before .before .before .pre .2) (c .before .before .before .before .if1 .left) (sym (c .before .if2 .left) ∙ c .before .before .is-special .ensures)))
@@ -55,15 +31,15 @@ pub escaped-spec : {M : Type 1} → statement M
 escaped-spec =
     tie.close
     (tie.spec
-    add-if1
-    refused-requires
+    (λ c. search needs)
+    (λ c κs. search needs)
     returns
-    add-is-special
-    shared-slice-read-is-special
-    is-special-requires
+    (λ c. search needs)
+    (λ c. search needs)
+    (λ c κs. search needs)
     push-leaf-requires
-    add-found
-    found-requires
+    (λ c. search needs)
+    (λ c κs. search needs)
     returns-2
-    refused-requires-2
+    (λ c κs. search needs)
     returns-3)

@@ -8,12 +8,6 @@ use Rattle.reader.proofs.judged.Tie as tie
 use Rattle.reader.proofs.judged.Reads as reads
 use Rattle.reader.proofs.judged.Lts as lts
 
-enum-known-part : tie.Need-enum-known-part
-enum-known-part c = search needs
-
-enum-known-part-2 : tie.Need-enum-known-part-2
-enum-known-part-2 c = search needs
-
 returns : tie.Need-returns
 returns c = answer-close _ _ (c .before .before .part2 .given .1) (c .if1 .taken)
 
@@ -28,4 +22,4 @@ returns-4 c = answer-accepted _ _ (c .before .before .before .part2 .given .1) (
 
 pub judged-spec : {M : Type 1} → statement M
 judged-spec =
-    tie.close (tie.spec enum-known-part enum-known-part-2 returns returns-2 returns-3 returns-4)
+    tie.close (tie.spec (λ c. search needs) (λ c. search needs) returns returns-2 returns-3 returns-4)

@@ -8,9 +8,6 @@ use Rattle.reader.proofs.push_if_empty.Reads as reads
 use Rattle.reader.proofs.push_if_empty.Lts as lts
 use Rattle.tokens.proofs.push.Reads as push-reads
 
-push-requires : tie.Need-push-requires
-push-requires c κs = search needs
-
 returns : tie.Need-returns
 returns c = record { added = λ e. c .push .ensures; kept = λ n. absurd (n (c .before .before .if1 .taken)) }
 
@@ -18,4 +15,4 @@ returns-2 : tie.Need-returns-2
 returns-2 c = record { added = λ e. absurd (c .if1 .left e); kept = λ n. (refl, refl) }
 
 pub push-if-empty-spec : {M : Type 1} → statement M
-push-if-empty-spec = tie.close (tie.spec push-requires returns returns-2)
+push-if-empty-spec = tie.close (tie.spec (λ c κs. search needs) returns returns-2)

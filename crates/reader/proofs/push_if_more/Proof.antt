@@ -8,9 +8,6 @@ use Rattle.reader.proofs.push_if_more.Reads as reads
 use Rattle.reader.proofs.push_if_more.Lts as lts
 use Rattle.tokens.proofs.push.Reads as push-reads
 
-push-requires : tie.Need-push-requires
-push-requires c κs = search needs
-
 returns : tie.Need-returns
 returns c = record { added = λ n. absurd (n (c .if1 .taken)); kept = λ n. (refl, refl) }
 
@@ -18,4 +15,4 @@ returns-2 : tie.Need-returns-2
 returns-2 c = record { added = λ n. c .push .ensures; kept = λ n. absurd (n (c .before .before .if1 .left)) }
 
 pub push-if-more-spec : {M : Type 1} → statement M
-push-if-more-spec = tie.close (tie.spec push-requires returns returns-2)
+push-if-more-spec = tie.close (tie.spec (λ c κs. search needs) returns returns-2)

@@ -15,32 +15,14 @@ use Rattle.reader.proofs.alternation.Reads as alternation-reads
 use Rattle.arrays.proofs.finish.Reads as finish-reads
 use Rattle.reader.proofs.judged.Reads as judged-reads
 
-empty-requires : tie.Need-empty-requires
-empty-requires c κs = search needs
-
 returns : tie.Need-returns
 returns c = read-long _ _ (c .before .if1 .taken) (c .empty .ensures)
 
 alternation-requires : tie.Need-alternation-requires
 alternation-requires c κs = begun-start _ (omega arith)
 
-judged-requires : tie.Need-judged-requires
-judged-requires c κs = search needs
-
-enum-told : tie.Need-enum-told
-enum-told c = search needs
-
-enum-told-2 : tie.Need-enum-told-2
-enum-told-2 c = search needs
-
-empty-requires-2 : tie.Need-empty-requires-2
-empty-requires-2 c κs = search needs
-
 returns-2 : tie.Need-returns-2
 returns-2 c = read-right (omega arith) _ _ (c .before .before .before .before .alternation .ensures) (c .before .before .before .judged .ensures) (λ e. absurd (let z : _≡_ {A = ℕ} 0 1 = cc in omega arith)) (λ n q e. c .empty2 .ensures)
-
-finish-requires : tie.Need-finish-requires
-finish-requires c κs = search needs
 
 returns-3 : tie.Need-returns-3
 returns-3 c = read-right (omega arith) _ _ (c .before .before .before .before .before .alternation .ensures) (c .before .before .before .before .judged .ensures) (λ e. c .finish .ensures) (λ n q e. absurd (let z : _≡_ {A = ℕ} 0 1 = cc in omega arith))
@@ -49,13 +31,13 @@ pub read-spec : {M : Type 1} → statement M
 read-spec =
     tie.close
     (tie.spec
-    empty-requires
+    (λ c κs. search needs)
     returns
     alternation-requires
-    judged-requires
-    enum-told
-    enum-told-2
-    empty-requires-2
+    (λ c κs. search needs)
+    (λ c. search needs)
+    (λ c. search needs)
+    (λ c κs. search needs)
     returns-2
-    finish-requires
+    (λ c κs. search needs)
     returns-3)

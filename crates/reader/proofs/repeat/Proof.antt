@@ -16,62 +16,20 @@ use Rattle.tokens.proofs.at_least.Reads as at-least-reads
 use Rattle.tokens.proofs.between.Reads as between-reads
 use Rattle.tokens.proofs.star.Reads as star-reads
 
-found-requires : tie.Need-found-requires
-found-requires c κs = search needs
-
 returns : tie.Need-returns
 returns c = rw (c .found .ensures) (found-part (end-here (c .before .if1 .taken)))
-
-shared-slice-read-b : tie.Need-shared-slice-read-b
-shared-slice-read-b c = search needs
-
-star-requires : tie.Need-star-requires
-star-requires c κs = search needs
-
-add-found : tie.Need-add-found
-add-found c = search needs
-
-found-requires-2 : tie.Need-found-requires-2
-found-requires-2 c κs = search needs
 
 returns-2 : tie.Need-returns-2
 returns-2 c = rw (c .found2 .ensures) (found-part (many-here (omega arith) (c .before .before .before .if2 .taken) (c .before .star .ensures)))
 
-at-least-requires : tie.Need-at-least-requires
-at-least-requires c κs = search needs
-
-add-found-2 : tie.Need-add-found-2
-add-found-2 c = search needs
-
-load-requires : tie.Need-load-requires
-load-requires c κs = search needs
-
-found-requires-3 : tie.Need-found-requires-3
-found-requires-3 c κs = search needs
-
 returns-3 : tie.Need-returns-3
 returns-3 c = rw (c .found3 .ensures) (found-part (more-here _ (c .before .load .ensures) (omega arith) (c .before .before .before .before .if3 .taken) (c .before .before .at-least .ensures)))
-
-between-requires : tie.Need-between-requires
-between-requires c κs = search needs
-
-add-found-3 : tie.Need-add-found-3
-add-found-3 c = search needs
-
-found-requires-4 : tie.Need-found-requires-4
-found-requires-4 c κs = search needs
 
 returns-4 : tie.Need-returns-4
 returns-4 c = rw (c .found4 .ensures) (found-part (maybe-here (omega arith) (c .before .before .before .if4 .taken) (c .before .between .ensures)))
 
 counted-requires : tie.Need-counted-requires
 counted-requires c κs = (c .before .before .before .before .before .before .before .before .pre .0, omega arith, c .before .if5 .taken, c .before .before .before .before .before .before .before .before .pre .1)
-
-returns-5 : tie.Need-returns-5
-returns-5 c = search needs
-
-found-requires-5 : tie.Need-found-requires-5
-found-requires-5 c κs = search needs
 
 returns-6 : tie.Need-returns-6
 returns-6 c = rw (c .found5 .ensures) (found-part (other-here (omega arith) (c .before .before .before .before .if2 .left) (c .before .before .before .if3 .left) (c .before .before .if4 .left) (c .before .if5 .left)))
@@ -80,23 +38,23 @@ pub repeat-spec : {M : Type 1} → statement M
 repeat-spec =
     tie.close
     (tie.spec
-    found-requires
+    (λ c κs. search needs)
     returns
-    shared-slice-read-b
-    star-requires
-    add-found
-    found-requires-2
+    (λ c. search needs)
+    (λ c κs. search needs)
+    (λ c. search needs)
+    (λ c κs. search needs)
     returns-2
-    at-least-requires
-    add-found-2
-    load-requires
-    found-requires-3
+    (λ c κs. search needs)
+    (λ c. search needs)
+    (λ c κs. search needs)
+    (λ c κs. search needs)
     returns-3
-    between-requires
-    add-found-3
-    found-requires-4
+    (λ c κs. search needs)
+    (λ c. search needs)
+    (λ c κs. search needs)
     returns-4
     counted-requires
-    returns-5
-    found-requires-5
+    (λ c. search needs)
+    (λ c κs. search needs)
     returns-6)

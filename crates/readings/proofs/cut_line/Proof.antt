@@ -6,22 +6,10 @@ use Rattle.readings.proofs.Replying.{replied-accepted, replied-refused}
 use Rattle.readings.proofs.cut_line.Statement.{statement}
 use Rattle.readings.proofs.cut_line.Tie as tie
 
-read-requires : tie.Need-read-requires
-read-requires c κs = search needs
-
-enum-told : tie.Need-enum-told
-enum-told c = search needs
-
-enum-told-2 : tie.Need-enum-told-2
-enum-told-2 c = search needs
-
 returns : tie.Need-returns
 returns c =
     let r = c .before .before .read in
     replied-refused (r .result) (r .ensures) (c .enum-told2 .given .1)
-
-spans-by-requires : tie.Need-spans-by-requires
-spans-by-requires c κs = search needs
 
 returns-2 : tie.Need-returns-2
 returns-2 c =
@@ -30,4 +18,4 @@ returns-2 c =
 
 pub cut-line-spec : {M : Type 1} → statement M
 cut-line-spec =
-    tie.close (tie.spec read-requires enum-told enum-told-2 returns spans-by-requires returns-2)
+    tie.close (tie.spec (λ c κs. search needs) (λ c. search needs) (λ c. search needs) returns (λ c κs. search needs) returns-2)

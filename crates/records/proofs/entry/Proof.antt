@@ -8,9 +8,6 @@ use lib.Seq.{getD-take}
 use Rattle.records.proofs.entry.Statement.{statement}
 use Rattle.records.proofs.entry.Tie as tie
 
-element-copy-out-result : tie.Need-element-copy-out-result
-element-copy-out-result c = search needs
-
 returns : tie.Need-returns
 returns c = sym (getD-take _ _ _ 0 (c .before .if1 .taken))
 
@@ -20,4 +17,4 @@ returns-2 c =
     sym (List·getD-eq-default (take (a .n) (a .list .now)) 0 {n = a .i} (omega (arith, length-take (a .n) (a .list .now))))
 
 pub entry-spec : {M : Type 1} → statement M
-entry-spec = tie.close (tie.spec element-copy-out-result returns returns-2)
+entry-spec = tie.close (tie.spec (λ c. search needs) returns returns-2)

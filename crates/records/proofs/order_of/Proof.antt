@@ -17,42 +17,6 @@ Inv-loop v list₀ i₀ list i = (i ≤ 16) × (sets list (4 * i) (fours (16 - i
 abbrev μ-loop : tie.MeasureT-loop
 μ-loop v list₀ i₀ list i = 16 - i
 
-loop-holds : tie.Need-loop-holds Inv-loop μ-loop
-loop-holds c = search needs
-
-mul-j : tie.Need-mul-j Inv-loop μ-loop
-mul-j c = search needs
-
-add-j : tie.Need-add-j Inv-loop μ-loop
-add-j c = search needs
-
-mul-take-four : tie.Need-mul-take-four Inv-loop μ-loop
-mul-take-four c = search needs
-
-element-copy-out-take-four : tie.Need-element-copy-out-take-four Inv-loop μ-loop
-element-copy-out-take-four c = search needs
-
-add-take-four : tie.Need-add-take-four Inv-loop μ-loop
-add-take-four c = search needs
-
-element-copy-out-take-four-2 : tie.Need-element-copy-out-take-four-2 Inv-loop μ-loop
-element-copy-out-take-four-2 c = search needs
-
-add-take-four-2 : tie.Need-add-take-four-2 Inv-loop μ-loop
-add-take-four-2 c = search needs
-
-element-copy-out-take-four-3 : tie.Need-element-copy-out-take-four-3 Inv-loop μ-loop
-element-copy-out-take-four-3 c = search needs
-
-take-four-requires : tie.Need-take-four-requires Inv-loop μ-loop
-take-four-requires c κs = search needs
-
-add-i : tie.Need-add-i Inv-loop μ-loop
-add-i c = search needs
-
-loop-less : tie.Need-loop-less Inv-loop μ-loop
-loop-less c = search needs
-
 loop-again : tie.Need-loop-again Inv-loop μ-loop
 loop-again c =
     let p = c .before .before .before .before .before .before .loop in
@@ -72,17 +36,17 @@ order-of-spec =
     (tie.spec
     Inv-loop
     μ-loop
-    loop-holds
-    mul-j
-    add-j
-    mul-take-four
-    element-copy-out-take-four
-    add-take-four
-    element-copy-out-take-four-2
-    add-take-four-2
-    element-copy-out-take-four-3
-    take-four-requires
-    add-i
-    loop-less
+    (λ c. search needs)
+    (λ c. search needs)
+    (λ c. search needs)
+    (λ c. search needs)
+    (λ c. search needs)
+    (λ c. search needs)
+    (λ c. search needs)
+    (λ c. search needs)
+    (λ c. search needs)
+    (λ c κs. search needs)
+    (λ c. search needs)
+    (λ c. search needs)
     loop-again
     returns)

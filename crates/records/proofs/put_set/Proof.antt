@@ -16,24 +16,6 @@ Inv-loop v₀ x y₀ i₀ v y i = (2 ≤ i) × (i ≤ 10) × (sets v i (bytesOf 
 abbrev μ-loop : tie.MeasureT-loop
 μ-loop v₀ x y₀ i₀ v y i = 10 - i
 
-loop-holds : tie.Need-loop-holds Inv-loop μ-loop
-loop-holds c = search needs
-
-turned-requires : tie.Need-turned-requires Inv-loop μ-loop
-turned-requires c κs = search needs
-
-cast-v : tie.Need-cast-v Inv-loop μ-loop
-cast-v c = search needs
-
-element-write-v : tie.Need-element-write-v Inv-loop μ-loop
-element-write-v c = search needs
-
-add-i : tie.Need-add-i Inv-loop μ-loop
-add-i c = search needs
-
-loop-less : tie.Need-loop-less Inv-loop μ-loop
-loop-less c = search needs
-
 loop-again : tie.Need-loop-again Inv-loop μ-loop
 loop-again c =
     let p = c .before .before .loop in
@@ -53,11 +35,11 @@ put-set-spec =
     (tie.spec
     Inv-loop
     μ-loop
-    loop-holds
-    turned-requires
-    cast-v
-    element-write-v
-    add-i
-    loop-less
+    (λ c. search needs)
+    (λ c κs. search needs)
+    (λ c. search needs)
+    (λ c. search needs)
+    (λ c. search needs)
+    (λ c. search needs)
     loop-again
     returns)

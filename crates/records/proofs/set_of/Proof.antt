@@ -20,30 +20,15 @@ loop-holds : tie.Need-loop-holds Inv-loop μ-loop
 unfolding setOf
 loop-holds c = search needs
 
-sub-i : tie.Need-sub-i Inv-loop μ-loop
-sub-i c = search needs
-
 mul-x : tie.Need-mul-x Inv-loop μ-loop
 mul-x c =
     let p = c .before .loop in
     omega (arith, p .inv .2, set-room (10 - p .i) (drop (p .i) (c .before .before .args .v .now)) (omega arith))
 
-element-copy-out-wide : tie.Need-element-copy-out-wide Inv-loop μ-loop
-element-copy-out-wide c = search needs
-
-wide-requires : tie.Need-wide-requires Inv-loop μ-loop
-wide-requires c κs = search needs
-
-turned-requires : tie.Need-turned-requires Inv-loop μ-loop
-turned-requires c κs = search needs
-
 add-x : tie.Need-add-x Inv-loop μ-loop
 add-x c =
     let p = c .before .before .before .before .loop in
     omega (arith, p .inv .2, set-room (10 - p .i) (drop (p .i) (c .before .before .before .before .before .args .v .now)) (omega arith))
-
-loop-less : tie.Need-loop-less Inv-loop μ-loop
-loop-less c = search needs
 
 loop-again : tie.Need-loop-again Inv-loop μ-loop
 loop-again c =
@@ -65,12 +50,12 @@ set-of-spec =
     Inv-loop
     μ-loop
     loop-holds
-    sub-i
+    (λ c. search needs)
     mul-x
-    element-copy-out-wide
-    wide-requires
-    turned-requires
+    (λ c. search needs)
+    (λ c κs. search needs)
+    (λ c κs. search needs)
     add-x
-    loop-less
+    (λ c. search needs)
     loop-again
     returns)

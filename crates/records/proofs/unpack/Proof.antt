@@ -5,24 +5,6 @@ use Rattle.records.proofs.Right.{unpack-right}
 use Rattle.records.proofs.unpack.Statement.{statement}
 use Rattle.records.proofs.unpack.Tie as tie
 
-order-of-requires : tie.Need-order-of-requires
-order-of-requires c κs = search needs
-
-set-of-requires : tie.Need-set-of-requires
-set-of-requires c κs = search needs
-
-array-read-wide : tie.Need-array-read-wide
-array-read-wide c = search needs
-
-wide-requires : tie.Need-wide-requires
-wide-requires c κs = search needs
-
-array-read-t15 : tie.Need-array-read-t15
-array-read-t15 c = search needs
-
-array-read-t20 : tie.Need-array-read-t20
-array-read-t20 c = search needs
-
 returns : tie.Need-returns
 returns c =
     let v = c .before .before .before .before .before .args .t1 in
@@ -32,10 +14,10 @@ pub unpack-spec : {M : Type 1} → statement M
 unpack-spec =
     tie.close
     (tie.spec
-    order-of-requires
-    set-of-requires
-    array-read-wide
-    wide-requires
-    array-read-t15
-    array-read-t20
+    (λ c κs. search needs)
+    (λ c κs. search needs)
+    (λ c. search needs)
+    (λ c κs. search needs)
+    (λ c. search needs)
+    (λ c. search needs)
     returns)

@@ -14,9 +14,6 @@ use Rattle.scanner.proofs.at_least.Tie as tie
 closed : (c : tie.Else1) → Here (c .before .before .before .args .s .now) (c .before .before .before .args .at) 125
 closed c = first-here _ _ 125 (still-seen (c .before .has-byte .ensures) (c .if1 .left))
 
-has-byte-requires : tie.Need-has-byte-requires
-has-byte-requires c κs = search needs
-
 returns : tie.Need-returns
 returns c =
     λ d from v f q.
@@ -32,4 +29,4 @@ returns-3 : tie.Need-returns-3
 returns-3 c = λ d from v f q. least-found d v (closed (c .before)) from (le-leb _ _ (c .if2 .left)) f q
 
 pub at-least-spec : {M : Type 1} → statement M
-at-least-spec = tie.close (tie.spec has-byte-requires returns returns-2 add-t6 returns-3)
+at-least-spec = tie.close (tie.spec (λ c κs. search needs) returns returns-2 add-t6 returns-3)

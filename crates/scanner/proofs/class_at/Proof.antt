@@ -10,12 +10,6 @@ use Rattle.scanner.proofs.class_at.Tie as tie
 caret : (c : tie.Else1) → Here (c .before .before .before .args .s .now) (c .before .before .before .args .at) 94
 caret c = first-here _ _ 94 (still-seen (c .before .has-byte .ensures) (c .if1 .left))
 
-has-byte-requires : tie.Need-has-byte-requires
-has-byte-requires c κs = search needs
-
-take-all-requires : tie.Need-take-all-requires
-take-all-requires c κs = search needs
-
 returns : tie.Need-returns
 returns c =
     let a = c .before .before .before .before .args in
@@ -23,15 +17,6 @@ returns c =
 
 add-take-all : tie.Need-add-take-all
 add-take-all c = omega (arith, (caret c) .inside)
-
-take-all-requires-2 : tie.Need-take-all-requires-2
-take-all-requires-2 c κs = search needs
-
-enum-known-items : tie.Need-enum-known-items
-enum-known-items c = search needs
-
-enum-told : tie.Need-enum-told
-enum-told c = search needs
 
 returns-2 : tie.Need-returns-2
 returns-2 c = class-fault (c .before .before .before .before .before .before .args .b) (caret (c .before .before .before)) (rw (c .enum-told .given .1) at (c .before .before .take-all2 .ensures))
@@ -43,12 +28,12 @@ pub class-at-spec : {M : Type 1} → statement M
 class-at-spec =
     tie.close
     (tie.spec
-    has-byte-requires
-    take-all-requires
+    (λ c κs. search needs)
+    (λ c κs. search needs)
     returns
     add-take-all
-    take-all-requires-2
-    enum-known-items
-    enum-told
+    (λ c κs. search needs)
+    (λ c. search needs)
+    (λ c. search needs)
     returns-2
     returns-3)

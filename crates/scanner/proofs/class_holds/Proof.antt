@@ -6,15 +6,6 @@ use Rattle.scanner.proofs.Classes.{class-holds}
 use Rattle.scanner.proofs.class_holds.Statement.{statement}
 use Rattle.scanner.proofs.class_holds.Tie as tie
 
-class-at-requires : tie.Need-class-at-requires
-class-at-requires c κs = search needs
-
-enum-known-class : tie.Need-enum-known-class
-enum-known-class c = search needs
-
-enum-told : tie.Need-enum-told
-enum-told c = search needs
-
 returns : tie.Need-returns
 returns c = rw (rw (c .enum-told .given .1) at (c .before .before .class-at .ensures)) refl
 
@@ -23,4 +14,4 @@ returns-2 c = class-holds (c .before .before .before .before .before .args .b) (
 
 pub class-holds-spec : {M : Type 1} → statement M
 class-holds-spec =
-    tie.close (tie.spec class-at-requires enum-known-class enum-told returns returns-2)
+    tie.close (tie.spec (λ c κs. search needs) (λ c. search needs) (λ c. search needs) returns returns-2)

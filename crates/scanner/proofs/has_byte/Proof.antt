@@ -10,11 +10,8 @@ use Rattle.scanner.proofs.has_byte.Tie as tie
 returns : tie.Need-returns
 returns c = rw (drop-of-length-le (c .before .args .s .now) (c .if1 .taken)) refl
 
-shared-slice-read-result : tie.Need-shared-slice-read-result
-shared-slice-read-result c = search needs
-
 returns-2 : tie.Need-returns-2
 returns-2 c = rw (stands (c .before .before .args .s .now) (c .before .before .args .at) (c .before .if1 .left) .rest) refl
 
 pub has-byte-spec : {M : Type 1} → statement M
-has-byte-spec = tie.close (tie.spec returns shared-slice-read-result returns-2)
+has-byte-spec = tie.close (tie.spec returns (λ c. search needs) returns-2)

@@ -5,14 +5,8 @@ use mathlib.Core.Path.{refl}
 use Rattle.scanner.proofs.in_set.Statement.{statement}
 use Rattle.scanner.proofs.in_set.Tie as tie
 
-set-bits-requires : tie.Need-set-bits-requires
-set-bits-requires c κs = search needs
-
-div-result : tie.Need-div-result
-div-result c = search needs
-
 returns : tie.Need-returns
 returns c = rw (c .set-bits .ensures) refl
 
 pub in-set-spec : {M : Type 1} → statement M
-in-set-spec = tie.close (tie.spec set-bits-requires div-result returns)
+in-set-spec = tie.close (tie.spec (λ c κs. search needs) (λ c. search needs) returns)

@@ -7,9 +7,6 @@ use Rattle.scanner.proofs.Bytes.{marked-byte}
 use Rattle.scanner.proofs.is_marked.Statement.{statement}
 use Rattle.scanner.proofs.is_marked.Tie as tie
 
-within-requires : tie.Need-within-requires
-within-requires c κs = search needs
-
 returns : tie.Need-returns
 returns c = rw (marked-byte (c .before .before .args .b) (search needs), seen (c .before .within .ensures) (c .if1 .taken)) refl
 
@@ -17,4 +14,4 @@ returns-2 : tie.Need-returns-2
 returns-2 c = rw (marked-byte (c .before .before .args .b) (search needs), seen (c .before .within .ensures) (c .if1 .left)) refl
 
 pub is-marked-spec : {M : Type 1} → statement M
-is-marked-spec = tie.close (tie.spec within-requires returns returns-2)
+is-marked-spec = tie.close (tie.spec (λ c κs. search needs) returns returns-2)

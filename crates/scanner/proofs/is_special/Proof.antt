@@ -16,20 +16,11 @@ alone c =
     rw (special-byte (c .before .before .before .before .before .before .args .b) (search needs), seen (c .before .before .before .before .before .within .ensures) (c .before .before .before .before .if1 .left), seen (c .before .before .before .within2 .ensures) (c .before .before .if2 .left), seen (c .before .within3 .ensures) (c .if3 .left))
     refl
 
-within-requires : tie.Need-within-requires
-within-requires c κs = search needs
-
 returns : tie.Need-returns
 returns c = rw (special-byte (c .before .before .args .b) (search needs), seen (c .before .within .ensures) (c .if1 .taken)) refl
 
-within-requires-2 : tie.Need-within-requires-2
-within-requires-2 c κs = search needs
-
 returns-2 : tie.Need-returns-2
 returns-2 c = rw (special-byte (c .before .before .before .before .args .b) (search needs), seen (c .before .before .before .within .ensures) (c .before .before .if1 .left), seen (c .before .within2 .ensures) (c .if2 .taken)) refl
-
-within-requires-3 : tie.Need-within-requires-3
-within-requires-3 c κs = search needs
 
 returns-3 : tie.Need-returns-3
 returns-3 c =
@@ -49,11 +40,11 @@ pub is-special-spec : {M : Type 1} → statement M
 is-special-spec =
     tie.close
     (tie.spec
-    within-requires
+    (λ c κs. search needs)
     returns
-    within-requires-2
+    (λ c κs. search needs)
     returns-2
-    within-requires-3
+    (λ c κs. search needs)
     returns-3
     returns-4
     returns-5

@@ -16,32 +16,14 @@ returns : tie.Need-returns
 unfolding leafHolds
 returns c = rw (drop-of-length-le (c .before .before .args .s .now) (c .if1 .taken)) refl
 
-shared-slice-read-c : tie.Need-shared-slice-read-c
-shared-slice-read-c c = search needs
-
-add-has-byte : tie.Need-add-has-byte
-add-has-byte c = search needs
-
-has-byte-requires : tie.Need-has-byte-requires
-has-byte-requires c κs = search needs
-
 returns-2 : tie.Need-returns-2
 returns-2 c = c .has-byte .ensures ∙ sym (leaf-escaped (c .before .before .before .before .before .args .b) (rw (c .before .if2 .taken) at (stood (c .before .before .before))))
-
-add-class-holds : tie.Need-add-class-holds
-add-class-holds c = search needs
-
-class-holds-requires : tie.Need-class-holds-requires
-class-holds-requires c κs = search needs
 
 returns-3 : tie.Need-returns-3
 returns-3 c = c .class-holds .ensures ∙ sym (leaf-class (c .before .before .before .before .before .before .args .b) (rw (c .before .if3 .taken) at (stood (c .before .before .before .before))))
 
 returns-4 : tie.Need-returns-4
 returns-4 c = sym (leaf-dot (c .before .before .before .before .before .before .args .b) (rw (c .if4 .taken) at (stood (c .before .before .before .before))))
-
-is-special-requires : tie.Need-is-special-requires
-is-special-requires c κs = search needs
 
 returns-5 : tie.Need-returns-5
 returns-5 c =
@@ -56,14 +38,14 @@ leaf-holds-spec =
     tie.close
     (tie.spec
     returns
-    shared-slice-read-c
-    add-has-byte
-    has-byte-requires
+    (λ c. search needs)
+    (λ c. search needs)
+    (λ c κs. search needs)
     returns-2
-    add-class-holds
-    class-holds-requires
+    (λ c. search needs)
+    (λ c κs. search needs)
     returns-3
     returns-4
-    is-special-requires
+    (λ c κs. search needs)
     returns-5
     returns-6)

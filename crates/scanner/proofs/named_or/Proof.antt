@@ -8,9 +8,6 @@ use Rattle.scanner.proofs.Places.{seen}
 use Rattle.scanner.proofs.named_or.Statement.{statement}
 use Rattle.scanner.proofs.named_or.Tie as tie
 
-same-at-requires : tie.Need-same-at-requires
-same-at-requires c κs = search needs
-
 add-t8 : tie.Need-add-t8
 add-t8 c =
     omega (arith, begins-fits (c .before .before .before .before .args .name .now) (c .before .before .before .before .args .s .now) (c .before .before .before .before .args .at) (seen (c .before .same-at .ensures) (c .if1 .taken)))
@@ -22,4 +19,4 @@ returns-2 : tie.Need-returns-2
 returns-2 c = rw (seen (c .before .same-at .ensures) (c .if1 .left)) refl
 
 pub named-or-spec : {M : Type 1} → statement M
-named-or-spec = tie.close (tie.spec same-at-requires add-t8 returns returns-2)
+named-or-spec = tie.close (tie.spec (λ c κs. search needs) add-t8 returns returns-2)

@@ -5,15 +5,6 @@ use Rattle.scanner.proofs.Classes.{class-found}
 use Rattle.scanner.proofs.read_class.Statement.{statement}
 use Rattle.scanner.proofs.read_class.Tie as tie
 
-class-at-requires : tie.Need-class-at-requires
-class-at-requires c κs = search needs
-
-enum-known-class : tie.Need-enum-known-class
-enum-known-class c = search needs
-
-enum-told : tie.Need-enum-told
-enum-told c = search needs
-
 returns : tie.Need-returns
 returns c = rw (c .enum-told .given .1) at (c .before .before .class-at .ensures)
 
@@ -22,4 +13,4 @@ returns-2 c = class-found 0 (rw (c .before .class .given .1) at (c .before .befo
 
 pub read-class-spec : {M : Type 1} → statement M
 read-class-spec =
-    tie.close (tie.spec class-at-requires enum-known-class enum-told returns returns-2)
+    tie.close (tie.spec (λ c κs. search needs) (λ c. search needs) (λ c. search needs) returns returns-2)

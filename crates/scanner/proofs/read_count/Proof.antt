@@ -20,34 +20,16 @@ comma c = first-here _ _ 44 (seen (c .before .has-byte .ensures) (c .if1 .taken)
 closed : (c : tie.Else2) → Here (c .before .before .before .before .before .before .before .before .before .args .s .now) (c .before .before .before .before .before .first .given .0 .1 .0) 125
 closed c = first-here _ _ 125 (still-seen (c .before .has-byte2 .ensures) (c .if2 .left))
 
-read-digits-requires : tie.Need-read-digits-requires
-read-digits-requires c κs = search needs
-
-enum-known-first : tie.Need-enum-known-first
-enum-known-first c = search needs
-
-enum-told : tie.Need-enum-told
-enum-told c = search needs
-
 returns : tie.Need-returns
 returns c = rw (rw (c .enum-told .given .1) at (c .before .before .read-digits .ensures)) refl
 
-has-byte-requires : tie.Need-has-byte-requires
-has-byte-requires c κs = search needs
-
 add-second : tie.Need-add-second
 add-second c = omega (arith, (comma c) .inside)
-
-second-requires : tie.Need-second-requires
-second-requires c κs = search needs
 
 returns-2 : tie.Need-returns-2
 returns-2 c =
     let n = number (c .before .before .before .before) in
     c .second .ensures (n .0) (c .before .before .before .before .before .before .before .before .args .at) (n .2) (omega (arith, n .3 .forward)) (count-comma n (comma (c .before)))
-
-has-byte-requires-2 : tie.Need-has-byte-requires-2
-has-byte-requires-2 c κs = search needs
 
 returns-3 : tie.Need-returns-3
 returns-3 c =
@@ -67,15 +49,15 @@ pub read-count-spec : {M : Type 1} → statement M
 read-count-spec =
     tie.close
     (tie.spec
-    read-digits-requires
-    enum-known-first
-    enum-told
+    (λ c κs. search needs)
+    (λ c. search needs)
+    (λ c. search needs)
     returns
-    has-byte-requires
+    (λ c κs. search needs)
     add-second
-    second-requires
+    (λ c κs. search needs)
     returns-2
-    has-byte-requires-2
+    (λ c κs. search needs)
     returns-3
     returns-4
     add-t10

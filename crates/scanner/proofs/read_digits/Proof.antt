@@ -28,32 +28,14 @@ ones c = still-seen (c .before .within2 .ensures) (c .if4 .left)
 returns : tie.Need-returns
 returns c = ap readDigits (drop-of-length-le (c .before .before .args .s .now) (c .if1 .taken))
 
-shared-slice-read-b : tie.Need-shared-slice-read-b
-shared-slice-read-b c = search needs
-
-within-requires : tie.Need-within-requires
-within-requires c κs = search needs
-
 returns-2 : tie.Need-returns-2
 returns-2 c = digits-none (stood (c .before .before .before)) (unseen (c .before .within .ensures) (c .if2 .taken))
 
 sub-wide : tie.Need-sub-wide
 sub-wide c = omega (arith, digit-bounds (stood (c .before .before .before)) (tens c))
 
-wide-requires : tie.Need-wide-requires
-wide-requires c κs = search needs
-
-add-next : tie.Need-add-next
-add-next c = search needs
-
 returns-3 : tie.Need-returns-3
 returns-3 c = rw (c .before .wide .ensures) (digits-last (stood (c .before .before .before .before .before)) (tens (c .before .before)) (c .if3 .taken))
-
-shared-slice-read-c : tie.Need-shared-slice-read-c
-shared-slice-read-c c = search needs
-
-within-requires-2 : tie.Need-within-requires-2
-within-requires-2 c κs = search needs
 
 returns-4 : tie.Need-returns-4
 returns-4 c =
@@ -63,18 +45,12 @@ returns-4 c =
 sub-wide-2 : tie.Need-sub-wide-2
 sub-wide-2 c = omega (arith, digit-bounds (follows (c .before .before .before)) (ones c))
 
-wide-requires-2 : tie.Need-wide-requires-2
-wide-requires-2 c κs = search needs
-
 mul-t8 : tie.Need-mul-t8
 mul-t8 c = omega (arith, c .before .before .before .before .before .wide .ensures, digit-bounds (stood (c .before .before .before .before .before .before .before .before .before)) (tens (c .before .before .before .before .before .before)))
 
 add-t14 : tie.Need-add-t14
 add-t14 c =
     omega (arith, c .before .before .before .before .before .wide .ensures, c .wide2 .ensures, digit-bounds (stood (c .before .before .before .before .before .before .before .before .before)) (tens (c .before .before .before .before .before .before)), digit-bounds (follows (c .before .before .before .before)) (ones (c .before)))
-
-add-t15 : tie.Need-add-t15
-add-t15 c = search needs
 
 returns-5 : tie.Need-returns-5
 returns-5 c =
@@ -86,19 +62,19 @@ read-digits-spec =
     tie.close
     (tie.spec
     returns
-    shared-slice-read-b
-    within-requires
+    (λ c. search needs)
+    (λ c κs. search needs)
     returns-2
     sub-wide
-    wide-requires
-    add-next
+    (λ c κs. search needs)
+    (λ c. search needs)
     returns-3
-    shared-slice-read-c
-    within-requires-2
+    (λ c. search needs)
+    (λ c κs. search needs)
     returns-4
     sub-wide-2
-    wide-requires-2
+    (λ c κs. search needs)
     mul-t8
     add-t14
-    add-t15
+    (λ c. search needs)
     returns-5)

@@ -15,15 +15,6 @@ stood c = stands _ _ (c .if1 .left)
 returns : tie.Need-returns
 returns c = ap readEscaped (drop-of-length-le (c .before .before .args .s .now) (c .if1 .taken))
 
-shared-slice-read-b : tie.Need-shared-slice-read-b
-shared-slice-read-b c = search needs
-
-is-marked-requires : tie.Need-is-marked-requires
-is-marked-requires c κs = search needs
-
-add-t9 : tie.Need-add-t9
-add-t9 c = search needs
-
 returns-2 : tie.Need-returns-2
 returns-2 c = escaped-marked (stood (c .before .before .before)) (seen (c .before .is-marked .ensures) (c .if2 .taken))
 
@@ -32,4 +23,4 @@ returns-3 c = escaped-other (stood (c .before .before .before)) (seen (c .before
 
 pub read-escaped-spec : {M : Type 1} → statement M
 read-escaped-spec =
-    tie.close (tie.spec returns shared-slice-read-b is-marked-requires add-t9 returns-2 returns-3)
+    tie.close (tie.spec returns (λ c. search needs) (λ c κs. search needs) (λ c. search needs) returns-2 returns-3)

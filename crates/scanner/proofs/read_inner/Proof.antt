@@ -15,26 +15,11 @@ stood c = stands _ _ (c .if1 .left)
 returns : tie.Need-returns
 returns c = ap readInner (drop-of-length-le (c .before .before .args .s .now) (c .if1 .taken))
 
-shared-slice-read-b : tie.Need-shared-slice-read-b
-shared-slice-read-b c = search needs
-
-add-read-escaped : tie.Need-add-read-escaped
-add-read-escaped c = search needs
-
-read-escaped-requires : tie.Need-read-escaped-requires
-read-escaped-requires c κs = search needs
-
 returns-2 : tie.Need-returns-2
 returns-2 c = inner-escape (rw (c .before .if2 .taken) at (stood (c .before .before .before))) (c .read-escaped .result) (c .read-escaped .ensures)
 
-is-marked-requires : tie.Need-is-marked-requires
-is-marked-requires c κs = search needs
-
 returns-3 : tie.Need-returns-3
 returns-3 c = inner-marked (stood (c .before .before .before .before)) (c .before .before .if2 .left) (seen (c .before .is-marked .ensures) (c .if3 .taken))
-
-add-t4 : tie.Need-add-t4
-add-t4 c = search needs
 
 returns-4 : tie.Need-returns-4
 returns-4 c = inner-plain (stood (c .before .before .before .before)) (seen (c .before .is-marked .ensures) (c .if3 .left))
@@ -44,11 +29,11 @@ read-inner-spec =
     tie.close
     (tie.spec
     returns
-    shared-slice-read-b
-    add-read-escaped
-    read-escaped-requires
+    (λ c. search needs)
+    (λ c. search needs)
+    (λ c κs. search needs)
     returns-2
-    is-marked-requires
+    (λ c κs. search needs)
     returns-3
-    add-t4
+    (λ c. search needs)
     returns-4)

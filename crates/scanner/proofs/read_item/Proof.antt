@@ -11,34 +11,16 @@ use Rattle.scanner.proofs.read_item.Tie as tie
 opened : (c : tie.Then1) → Here (c .before .before .before .args .s .now) (c .before .before .before .args .at) 91
 opened c = first-here _ _ 91 (seen (c .before .has-byte .ensures) (c .if1 .taken))
 
-has-byte-requires : tie.Need-has-byte-requires
-has-byte-requires c κs = search needs
-
 add-read-named : tie.Need-add-read-named
 add-read-named c = omega (arith, (opened c) .inside)
 
-read-named-requires : tie.Need-read-named-requires
-read-named-requires c κs = search needs
-
 returns : tie.Need-returns
 returns c = c .read-named .ensures (c .before .before .before .before .args .at) (omega arith) (item-named (opened (c .before)))
-
-read-inner-requires : tie.Need-read-inner-requires
-read-inner-requires c κs = search needs
-
-enum-known-first : tie.Need-enum-known-first
-enum-known-first c = search needs
-
-enum-told : tie.Need-enum-told
-enum-told c = search needs
 
 returns-2 : tie.Need-returns-2
 returns-2 c =
     item-none (drop (c .before .before .before .before .before .before .args .at) (c .before .before .before .before .before .before .args .s .now)) (seen (c .before .before .before .before .has-byte .ensures) (c .before .before .before .if1 .left))
     (rw (c .enum-told .given .1) at (c .before .before .read-inner .ensures))
-
-read-range-requires : tie.Need-read-range-requires
-read-range-requires c κs = search needs
 
 returns-3 : tie.Need-returns-3
 returns-3 c =
@@ -50,13 +32,13 @@ pub read-item-spec : {M : Type 1} → statement M
 read-item-spec =
     tie.close
     (tie.spec
-    has-byte-requires
+    (λ c κs. search needs)
     add-read-named
-    read-named-requires
+    (λ c κs. search needs)
     returns
-    read-inner-requires
-    enum-known-first
-    enum-told
+    (λ c κs. search needs)
+    (λ c. search needs)
+    (λ c. search needs)
     returns-2
-    read-range-requires
+    (λ c κs. search needs)
     returns-3)

@@ -6,54 +6,6 @@ use Rattle.scanner.proofs.Names.{named-chosen}
 use Rattle.scanner.proofs.read_named.Statement.{statement}
 use Rattle.scanner.proofs.read_named.Tie as tie
 
-slice-aggregate-named-or : tie.Need-slice-aggregate-named-or
-slice-aggregate-named-or c = search needs
-
-named-or-requires : tie.Need-named-or-requires
-named-or-requires c κs = search needs
-
-slice-aggregate-named-or-2 : tie.Need-slice-aggregate-named-or-2
-slice-aggregate-named-or-2 c = search needs
-
-named-or-requires-2 : tie.Need-named-or-requires-2
-named-or-requires-2 c κs = search needs
-
-slice-aggregate-named-or-3 : tie.Need-slice-aggregate-named-or-3
-slice-aggregate-named-or-3 c = search needs
-
-named-or-requires-3 : tie.Need-named-or-requires-3
-named-or-requires-3 c κs = search needs
-
-slice-aggregate-named-or-4 : tie.Need-slice-aggregate-named-or-4
-slice-aggregate-named-or-4 c = search needs
-
-named-or-requires-4 : tie.Need-named-or-requires-4
-named-or-requires-4 c κs = search needs
-
-slice-aggregate-named-or-5 : tie.Need-slice-aggregate-named-or-5
-slice-aggregate-named-or-5 c = search needs
-
-named-or-requires-5 : tie.Need-named-or-requires-5
-named-or-requires-5 c κs = search needs
-
-slice-aggregate-named-or-6 : tie.Need-slice-aggregate-named-or-6
-slice-aggregate-named-or-6 c = search needs
-
-named-or-requires-6 : tie.Need-named-or-requires-6
-named-or-requires-6 c κs = search needs
-
-slice-aggregate-named-or-7 : tie.Need-slice-aggregate-named-or-7
-slice-aggregate-named-or-7 c = search needs
-
-named-or-requires-7 : tie.Need-named-or-requires-7
-named-or-requires-7 c κs = search needs
-
-slice-aggregate-named-or-8 : tie.Need-slice-aggregate-named-or-8
-slice-aggregate-named-or-8 c = search needs
-
-named-or-requires-8 : tie.Need-named-or-requires-8
-named-or-requires-8 c κs = search needs
-
 returns : tie.Need-returns
 returns c =
     let c7 = c .before .before in
@@ -70,20 +22,20 @@ pub read-named-spec : {M : Type 1} → statement M
 read-named-spec =
     tie.close
     (tie.spec
-    slice-aggregate-named-or
-    named-or-requires
-    slice-aggregate-named-or-2
-    named-or-requires-2
-    slice-aggregate-named-or-3
-    named-or-requires-3
-    slice-aggregate-named-or-4
-    named-or-requires-4
-    slice-aggregate-named-or-5
-    named-or-requires-5
-    slice-aggregate-named-or-6
-    named-or-requires-6
-    slice-aggregate-named-or-7
-    named-or-requires-7
-    slice-aggregate-named-or-8
-    named-or-requires-8
+    (λ c. search needs)
+    (λ c κs. search needs)
+    (λ c. search needs)
+    (λ c κs. search needs)
+    (λ c. search needs)
+    (λ c κs. search needs)
+    (λ c. search needs)
+    (λ c κs. search needs)
+    (λ c. search needs)
+    (λ c κs. search needs)
+    (λ c. search needs)
+    (λ c κs. search needs)
+    (λ c. search needs)
+    (λ c κs. search needs)
+    (λ c. search needs)
+    (λ c κs. search needs)
     returns)

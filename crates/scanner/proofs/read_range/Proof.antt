@@ -13,23 +13,11 @@ use Rattle.scanner.proofs.read_range.Tie as tie
 dashed : (c : tie.Else1) → Here (c .before .before .before .args .s .now) (c .before .before .before .args .at) 45
 dashed c = first-here _ _ 45 (still-seen (c .before .has-byte .ensures) (c .if1 .left))
 
-has-byte-requires : tie.Need-has-byte-requires
-has-byte-requires c κs = search needs
-
 returns : tie.Need-returns
 returns c = let a = c .before .before .before .args in λ x from v o q. (x, q ∙ range-single x (drop (a .at) (a .s .now)) (unseen (c .before .has-byte .ensures) (c .if1 .taken)), v, o)
 
 add-read-inner : tie.Need-add-read-inner
 add-read-inner c = omega (arith, (dashed c) .inside)
-
-read-inner-requires : tie.Need-read-inner-requires
-read-inner-requires c κs = search needs
-
-enum-known-last : tie.Need-enum-known-last
-enum-known-last c = search needs
-
-enum-told : tie.Need-enum-told
-enum-told c = search needs
 
 returns-2 : tie.Need-returns-2
 returns-2 c = λ x from v o q. q ∙ range-none x (dashed (c .before .before .before)) (rw (c .enum-told .given .1) at (c .before .before .read-inner .ensures))
@@ -48,12 +36,12 @@ pub read-range-spec : {M : Type 1} → statement M
 read-range-spec =
     tie.close
     (tie.spec
-    has-byte-requires
+    (λ c κs. search needs)
     returns
     add-read-inner
-    read-inner-requires
-    enum-known-last
-    enum-told
+    (λ c κs. search needs)
+    (λ c. search needs)
+    (λ c. search needs)
     returns-2
     returns-3
     returns-4)

@@ -21,25 +21,13 @@ abbrev μ-loop : tie.MeasureT-loop
 loop-holds : tie.Need-loop-holds Inv-loop μ-loop
 loop-holds c = refl
 
-shared-slice-read-has-byte : tie.Need-shared-slice-read-has-byte Inv-loop μ-loop
-shared-slice-read-has-byte c = search needs
-
-has-byte-requires : tie.Need-has-byte-requires Inv-loop μ-loop
-has-byte-requires c κs = search needs
-
 returns : tie.Need-returns Inv-loop μ-loop
 returns c =
     let a = c .before .before .before .before .before .before .before .args in let l = c .before .before .before .before .loop in
     sym (begins-other (a .name .now) (a .s .now) (l .i) (l .k) (c .before .before .before .loop-test .taken) (unseen (c .before .has-byte .ensures) (c .if1 .taken))) ∙ l .inv
 
-add-i : tie.Need-add-i Inv-loop μ-loop
-add-i c = search needs
-
 add-k : tie.Need-add-k Inv-loop μ-loop
 add-k c = omega (arith, (first-here (c .before .before .before .before .before .before .before .args .s .now) (c .before .before .before .before .loop .k) _ (still-seen (c .before .has-byte .ensures) (c .if1 .left))) .inside)
-
-loop-less : tie.Need-loop-less Inv-loop μ-loop
-loop-less c = search needs
 
 loop-again : tie.Need-loop-again Inv-loop μ-loop
 loop-again c =
@@ -58,11 +46,11 @@ same-at-spec =
     Inv-loop
     μ-loop
     loop-holds
-    shared-slice-read-has-byte
-    has-byte-requires
+    (λ c. search needs)
+    (λ c κs. search needs)
     returns
-    add-i
+    (λ c. search needs)
     add-k
-    loop-less
+    (λ c. search needs)
     loop-again
     returns-2)

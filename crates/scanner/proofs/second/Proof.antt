@@ -18,26 +18,11 @@ number c = rw (c .last .given .1) at (c .before .before .read-digits .ensures)
 closed : (c : tie.Else1) → Here (c .before .before .before .before .before .before .before .args .s .now) (c .before .before .before .last .given .0 .1 .0) 125
 closed c = first-here _ _ 125 (still-seen (c .before .has-byte .ensures) (c .if1 .left))
 
-read-digits-requires : tie.Need-read-digits-requires
-read-digits-requires c κs = search needs
-
-enum-known-last : tie.Need-enum-known-last
-enum-known-last c = search needs
-
-enum-told : tie.Need-enum-told
-enum-told c = search needs
-
-at-least-requires : tie.Need-at-least-requires
-at-least-requires c κs = search needs
-
 returns : tie.Need-returns
 returns c =
     λ d from v f q.
     c .at-least .ensures d from v f
     (q ∙ second-none d (drop (c .before .before .before .before .before .args .at) (c .before .before .before .before .before .args .s .now)) (rw (c .before .enum-told .given .1) at (c .before .before .before .read-digits .ensures)))
-
-has-byte-requires : tie.Need-has-byte-requires
-has-byte-requires c κs = search needs
 
 returns-2 : tie.Need-returns-2
 returns-2 c = λ d from v f q. q ∙ second-open (number (c .before .before .before)) d v (unseen (c .before .has-byte .ensures) (c .if1 .taken))
@@ -60,12 +45,12 @@ pub second-spec : {M : Type 1} → statement M
 second-spec =
     tie.close
     (tie.spec
-    read-digits-requires
-    enum-known-last
-    enum-told
-    at-least-requires
+    (λ c κs. search needs)
+    (λ c. search needs)
+    (λ c. search needs)
+    (λ c κs. search needs)
     returns
-    has-byte-requires
+    (λ c κs. search needs)
     returns-2
     returns-3
     returns-4

@@ -6,15 +6,9 @@ use Rattle.grammar.specs.Sets.{setTable}
 use Rattle.scanner.proofs.set_bits.Statement.{statement}
 use Rattle.scanner.proofs.set_bits.Tie as tie
 
-wide-requires : tie.Need-wide-requires
-wide-requires c κs = search needs
-
-array-read-result : tie.Need-array-read-result
-array-read-result c = search needs
-
 returns : tie.Need-returns
 unfolding setTable
 returns c = rw (c .wide .ensures) refl
 
 pub set-bits-spec : {M : Type 1} → statement M
-set-bits-spec = tie.close (tie.spec wide-requires array-read-result returns)
+set-bits-spec = tie.close (tie.spec (λ c κs. search needs) (λ c. search needs) returns)

@@ -5,22 +5,10 @@ use Rattle.scanner.proofs.Classes.{all-fault, all-taken}
 use Rattle.scanner.proofs.take_all.Statement.{statement}
 use Rattle.scanner.proofs.take_all.Tie as tie
 
-take-item-requires : tie.Need-take-item-requires
-take-item-requires c κs = search needs
-
-enum-known-first : tie.Need-enum-known-first
-enum-known-first c = search needs
-
-enum-told : tie.Need-enum-told
-enum-told c = search needs
-
 returns : tie.Need-returns
 returns c =
     all-fault (c .before .before .before .before .args .s .now) (c .before .before .before .before .args .at) (c .before .before .before .before .args .b)
     (rw (c .enum-told .given .1) at (c .before .before .take-item .ensures))
-
-take-items-requires : tie.Need-take-items-requires
-take-items-requires c κs = search needs
 
 returns-2 : tie.Need-returns-2
 returns-2 c =
@@ -30,4 +18,4 @@ returns-2 c =
 pub take-all-spec : {M : Type 1} → statement M
 take-all-spec =
     tie.close
-    (tie.spec take-item-requires enum-known-first enum-told returns take-items-requires returns-2)
+    (tie.spec (λ c κs. search needs) (λ c. search needs) (λ c. search needs) returns (λ c κs. search needs) returns-2)

@@ -5,35 +5,8 @@ use Rattle.scanner.proofs.Classes.{bit-positive, take-single, take-rang
 use Rattle.scanner.proofs.take_item.Statement.{statement}
 use Rattle.scanner.proofs.take_item.Tie as tie
 
-read-item-requires : tie.Need-read-item-requires
-read-item-requires c κs = search needs
-
-enum-known-item : tie.Need-enum-known-item
-enum-known-item c = search needs
-
-either-requires : tie.Need-either-requires
-either-requires c κs = search needs
-
-enum-known-item-2 : tie.Need-enum-known-item-2
-enum-known-item-2 c = search needs
-
-within-requires : tie.Need-within-requires
-within-requires c κs = search needs
-
-either-requires-2 : tie.Need-either-requires-2
-either-requires-2 c κs = search needs
-
-enum-known-item-3 : tie.Need-enum-known-item-3
-enum-known-item-3 c = search needs
-
 in-set-requires : tie.Need-in-set-requires
 in-set-requires c κs = let n = rw (c .before .item3 .given .1) at (c .before .before .before .read-item .ensures) in rw (← n .2) (bit-positive (n .0))
-
-either-requires-3 : tie.Need-either-requires-3
-either-requires-3 c κs = search needs
-
-enum-told : tie.Need-enum-told
-enum-told c = search needs
 
 returns : tie.Need-returns
 returns c =
@@ -57,16 +30,16 @@ pub take-item-spec : {M : Type 1} → statement M
 take-item-spec =
     tie.close
     (tie.spec
-    read-item-requires
-    enum-known-item
-    either-requires
-    enum-known-item-2
-    within-requires
-    either-requires-2
-    enum-known-item-3
+    (λ c κs. search needs)
+    (λ c. search needs)
+    (λ c κs. search needs)
+    (λ c. search needs)
+    (λ c κs. search needs)
+    (λ c κs. search needs)
+    (λ c. search needs)
     in-set-requires
-    either-requires-3
-    enum-told
+    (λ c κs. search needs)
+    (λ c. search needs)
     returns
     returns-2
     returns-3

@@ -25,25 +25,10 @@ stood c = stands _ _ (c .loop-test .taken)
 loop-holds : tie.Need-loop-holds Inv-loop μ-loop
 loop-holds c = λ r t. t
 
-shared-slice-read-if1 : tie.Need-shared-slice-read-if1 Inv-loop μ-loop
-shared-slice-read-if1 c = search needs
-
-add-t14 : tie.Need-add-t14 Inv-loop μ-loop
-add-t14 c = search needs
-
 returns : tie.Need-returns Inv-loop μ-loop
 returns c =
     let l = c .before .before .before .loop in
     l .inv (Upto (l .i + 1) (l .holds)) (items-closed (c .before .before .before .before .before .args .b) (l .holds) (rw (c .if1 .taken) at (stood (c .before .before))))
-
-take-item-requires : tie.Need-take-item-requires Inv-loop μ-loop
-take-item-requires c κs = search needs
-
-enum-known-item : tie.Need-enum-known-item Inv-loop μ-loop
-enum-known-item c = search needs
-
-enum-told : tie.Need-enum-told Inv-loop μ-loop
-enum-told c = search needs
 
 returns-2 : tie.Need-returns-2 Inv-loop μ-loop
 returns-2 c =
@@ -71,12 +56,12 @@ take-items-spec =
     Inv-loop
     μ-loop
     loop-holds
-    shared-slice-read-if1
-    add-t14
+    (λ c. search needs)
+    (λ c. search needs)
     returns
-    take-item-requires
-    enum-known-item
-    enum-told
+    (λ c κs. search needs)
+    (λ c. search needs)
+    (λ c. search needs)
     returns-2
     loop-less
     loop-again

@@ -7,12 +7,9 @@ use Rattle.verdict.proofs.Tables.{slots-most}
 use Rattle.search.proofs.slots_of.Statement.{statement}
 use Rattle.search.proofs.slots_of.Tie as tie
 
-least-requires : tie.Need-least-requires
-least-requires c κs = search needs
-
 returns : tie.Need-returns
 unfolding slots
 returns c = (c .least .ensures, omega (arith, c .least .ensures, slots-most (c .before .args .len)))
 
 pub slots-of-spec : {M : Type 1} → statement M
-slots-of-spec = tie.close (tie.spec least-requires returns)
+slots-of-spec = tie.close (tie.spec (λ c κs. search needs) returns)

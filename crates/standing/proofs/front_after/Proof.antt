@@ -17,12 +17,6 @@ Inv-loop from n mask rows lens list₀ most r₀ i₀ list r i = (i ≤ most) ×
 abbrev μ-loop : tie.MeasureT-loop
 μ-loop from n mask rows lens list₀ most r₀ i₀ list r i = most - i
 
-least-requires : tie.Need-least-requires Inv-loop μ-loop
-least-requires c κs = search needs
-
-empty-requires : tie.Need-empty-requires Inv-loop μ-loop
-empty-requires c κs = search needs
-
 loop-holds : tie.Need-loop-holds Inv-loop μ-loop
 loop-holds c = (omega arith, omega arith, c .empty .ensures _ (c .before .before .pre .1) .sound, λ h a. a)
 
@@ -31,20 +25,8 @@ returns c =
     let p = c .before .before .before .loop in
     rw (c .before .before .before .before .before .least .ensures) at (fronts-read _ (gathered (p .list) (p .r)) _ (c .before .before .before .before .empty .ensures _ (c .before .before .before .before .before .before .pre .1)) (p .inv .3 (gathered (p .list) (p .r)) (read-stop (gathered (p .list) (p .r)) _ (p .inv .2) (eq-eqb _ 1 (c .if1 .taken)))))
 
-element-copy-out-wide : tie.Need-element-copy-out-wide Inv-loop μ-loop
-element-copy-out-wide c = search needs
-
-wide-requires : tie.Need-wide-requires Inv-loop μ-loop
-wide-requires c κs = search needs
-
 read-leaf-requires : tie.Need-read-leaf-requires Inv-loop μ-loop
 read-leaf-requires c κs = c .before .before .before .before .before .before .loop .inv .2
-
-add-i : tie.Need-add-i Inv-loop μ-loop
-add-i c = search needs
-
-loop-less : tie.Need-loop-less Inv-loop μ-loop
-loop-less c = search needs
 
 loop-again : tie.Need-loop-again Inv-loop μ-loop
 loop-again c =
@@ -74,14 +56,14 @@ front-after-spec =
     (tie.spec
     Inv-loop
     μ-loop
-    least-requires
-    empty-requires
+    (λ c κs. search needs)
+    (λ c κs. search needs)
     loop-holds
     returns
-    element-copy-out-wide
-    wide-requires
+    (λ c. search needs)
+    (λ c κs. search needs)
     read-leaf-requires
-    add-i
-    loop-less
+    (λ c. search needs)
+    (λ c. search needs)
     loop-again
     returns-2)

@@ -10,11 +10,8 @@ use Rattle.standing.proofs.take_least.Tie as tie
 cast-t3 : tie.Need-cast-t3
 cast-t3 c = omega (arith, trailing-le 64 (c .args .x))
 
-sub-t4 : tie.Need-sub-t4
-sub-t4 c = search needs
-
 returns : tie.Need-returns
 returns c = parted (c .args .x) (c .pre) (omega arith)
 
 pub take-least-spec : {M : Type 1} → statement M
-take-least-spec = tie.close (tie.spec cast-t3 sub-t4 returns)
+take-least-spec = tie.close (tie.spec cast-t3 (λ c. search needs) returns)

@@ -16,9 +16,6 @@ abbrev μ-loop : tie.MeasureT-loop
 loop-holds : tie.Need-loop-holds Inv-loop μ-loop
 loop-holds c = rest-begin _ _ _ _ (λ p. and-bit (c .args .from) (c .args .mask) p)
 
-take-least-requires : tie.Need-take-least-requires Inv-loop μ-loop
-take-least-requires c κs = omega arith
-
 join-requires : tie.Need-join-requires Inv-loop μ-loop
 join-requires c κs = c .take-least .ensures .below
 
@@ -40,7 +37,7 @@ wants-after-spec =
     Inv-loop
     μ-loop
     loop-holds
-    take-least-requires
+    (λ c κs. omega arith)
     join-requires
     loop-less
     loop-again

@@ -6,15 +6,6 @@ use Rattle.table.proofs.Runs.{tells-no, agree-front, back-tells}
 use Rattle.table.proofs.agrees.Statement.{statement}
 use Rattle.table.proofs.agrees.Tie as tie
 
-equal-run-requires : tie.Need-equal-run-requires
-equal-run-requires c κs = search needs
-
-size-requires : tie.Need-size-requires
-size-requires c κs = search needs
-
-equal-run-requires-2 : tie.Need-equal-run-requires-2
-equal-run-requires-2 c κs = search needs
-
 returns : tie.Need-returns
 returns c =
     let a = c .before .before .before .before .before .args in
@@ -29,4 +20,4 @@ returns-2 c =
 
 pub agrees-spec : {M : Type 1} → statement M
 agrees-spec =
-    tie.close (tie.spec equal-run-requires size-requires equal-run-requires-2 returns returns-2)
+    tie.close (tie.spec (λ c κs. search needs) (λ c κs. search needs) (λ c κs. search needs) returns returns-2)

@@ -12,15 +12,6 @@ use Rattle.table.proofs.byte.Tie as tie
 returns : tie.Need-returns
 returns c = let a = c .before .args in sym (slot-missing (a .table .now) (a .k) _ _ (omega arith))
 
-mul-result : tie.Need-mul-result
-mul-result c = search needs
-
-add-result : tie.Need-add-result
-add-result c = search needs
-
-shared-slice-read-result : tie.Need-shared-slice-read-result
-shared-slice-read-result c = search needs
-
 returns-2 : tie.Need-returns-2
 returns-2 c =
     let a = c .before .before .args in
@@ -28,4 +19,4 @@ returns-2 c =
     omega arith
 
 pub byte-spec : {M : Type 1} → statement M
-byte-spec = tie.close (tie.spec returns mul-result add-result shared-slice-read-result returns-2)
+byte-spec = tie.close (tie.spec returns (λ c. search needs) (λ c. search needs) (λ c. search needs) returns-2)

@@ -14,28 +14,10 @@ Inv-loop table n v end k₀ k = (k ≤ end) × ((j : ℕ) → j < k → Agree (s
 abbrev μ-loop : tie.MeasureT-loop
 μ-loop table n v end k₀ k = end - k
 
-least-requires : tie.Need-least-requires Inv-loop μ-loop
-least-requires c κs = search needs
-
-loop-holds : tie.Need-loop-holds Inv-loop μ-loop
-loop-holds c = search needs
-
-mul-agrees : tie.Need-mul-agrees Inv-loop μ-loop
-mul-agrees c = search needs
-
-agrees-requires : tie.Need-agrees-requires Inv-loop μ-loop
-agrees-requires c κs = search needs
-
 returns : tie.Need-returns Inv-loop μ-loop
 returns c =
     let p = c .before .before .before .loop in
     record { most = search needs; before = p .inv .1; here = λ l. c .before .agrees .ensures .holds (c .if1 .taken) }
-
-add-k : tie.Need-add-k Inv-loop μ-loop
-add-k c = search needs
-
-loop-less : tie.Need-loop-less Inv-loop μ-loop
-loop-less c = search needs
 
 loop-again : tie.Need-loop-again Inv-loop μ-loop
 loop-again c =
@@ -53,12 +35,12 @@ find-spec =
     (tie.spec
     Inv-loop
     μ-loop
-    least-requires
-    loop-holds
-    mul-agrees
-    agrees-requires
+    (λ c κs. search needs)
+    (λ c. search needs)
+    (λ c. search needs)
+    (λ c κs. search needs)
     returns
-    add-k
-    loop-less
+    (λ c. search needs)
+    (λ c. search needs)
     loop-again
     returns-2)

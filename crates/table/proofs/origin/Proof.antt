@@ -12,33 +12,6 @@ use Rattle.table.proofs.origin.Tie as tie
 returns : tie.Need-returns
 returns c = let a = c .before .before .args in sym (slot-missing (a .table .now) (a .k) _ _ (omega arith))
 
-mul-at : tie.Need-mul-at
-mul-at c = search needs
-
-add-wide : tie.Need-add-wide
-add-wide c = search needs
-
-shared-slice-read-wide : tie.Need-shared-slice-read-wide
-shared-slice-read-wide c = search needs
-
-wide-requires : tie.Need-wide-requires
-wide-requires c κs = search needs
-
-mul-result : tie.Need-mul-result
-mul-result c = search needs
-
-add-wide-2 : tie.Need-add-wide-2
-add-wide-2 c = search needs
-
-shared-slice-read-wide-2 : tie.Need-shared-slice-read-wide-2
-shared-slice-read-wide-2 c = search needs
-
-wide-requires-2 : tie.Need-wide-requires-2
-wide-requires-2 c κs = search needs
-
-add-result : tie.Need-add-result
-add-result c = search needs
-
 returns-2 : tie.Need-returns-2
 returns-2 c =
     let a = c .before .before .before .before .before .before .args in
@@ -50,13 +23,13 @@ origin-spec =
     tie.close
     (tie.spec
     returns
-    mul-at
-    add-wide
-    shared-slice-read-wide
-    wide-requires
-    mul-result
-    add-wide-2
-    shared-slice-read-wide-2
-    wide-requires-2
-    add-result
+    (λ c. search needs)
+    (λ c. search needs)
+    (λ c. search needs)
+    (λ c κs. search needs)
+    (λ c. search needs)
+    (λ c. search needs)
+    (λ c. search needs)
+    (λ c κs. search needs)
+    (λ c. search needs)
     returns-2)

@@ -6,17 +6,8 @@ use Rattle.tokens.proofs.Blocks.{at-least-codes}
 use Rattle.tokens.proofs.at_least.Statement.{statement}
 use Rattle.tokens.proofs.at_least.Tie as tie
 
-copies-requires : tie.Need-copies-requires
-copies-requires c κs = search needs
-
-push-requires : tie.Need-push-requires
-push-requires c κs = search needs
-
-pushes-requires : tie.Need-pushes-requires
-pushes-requires c κs = search needs
-
 returns : tie.Need-returns
 returns c = same-codes (then-added (then-added (c .before .before .before .before .copies .ensures) (c .before .before .push .ensures)) (c .pushes .ensures)) (at-least-codes (c .before .before .before .before .before .before .args .times))
 
 pub at-least-spec : {M : Type 1} → statement M
-at-least-spec = tie.close (tie.spec copies-requires push-requires pushes-requires returns)
+at-least-spec = tie.close (tie.spec (λ c κs. search needs) (λ c κs. search needs) (λ c κs. search needs) returns)

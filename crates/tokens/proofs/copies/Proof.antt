@@ -23,15 +23,6 @@ returns c = outside _ _ _ _ (c .if1 .taken)
 loop-holds : tie.Need-loop-holds Inv-loop μ-loop
 loop-holds c = (omega arith, omega arith, copies-none _ _ _)
 
-copy-requires : tie.Need-copy-requires Inv-loop μ-loop
-copy-requires c κs = search needs
-
-add-i : tie.Need-add-i Inv-loop μ-loop
-add-i c = search needs
-
-loop-less : tie.Need-loop-less Inv-loop μ-loop
-loop-less c = search needs
-
 loop-again : tie.Need-loop-again Inv-loop μ-loop
 loop-again c = (omega arith, omega (arith, c .copy .ensures .more), copies-more _ (c .before .before .before .loop .i) (c .before .before .before .before .if1 .left) (c .before .before .before .loop .inv .2) (c .copy .ensures))
 
@@ -46,8 +37,8 @@ copies-spec =
     μ-loop
     returns
     loop-holds
-    copy-requires
-    add-i
-    loop-less
+    (λ c κs. search needs)
+    (λ c. search needs)
+    (λ c. search needs)
     loop-again
     returns-2)

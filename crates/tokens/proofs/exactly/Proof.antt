@@ -10,20 +10,8 @@ use Rattle.tokens.proofs.exactly.Tie as tie
 returns : tie.Need-returns
 returns c = outside _ _ _ _ (c .if2 .taken)
 
-push-requires : tie.Need-push-requires
-push-requires c κs = search needs
-
 returns-2 : tie.Need-returns-2
 returns-2 c = same-codes (replaced (c .before .before .if2 .left) (c .push .ensures)) (no-codes _ (c .before .before .before .if1 .taken))
-
-sub-joins : tie.Need-sub-joins
-sub-joins c = search needs
-
-copies-requires : tie.Need-copies-requires
-copies-requires c κs = search needs
-
-pushes-requires : tie.Need-pushes-requires
-pushes-requires c κs = search needs
 
 returns-3 : tie.Need-returns-3
 returns-3 c = same-codes (then-added (c .before .before .copies .ensures) (c .pushes .ensures)) (exactly-codes (c .before .before .before .before .before .args .times) (omega arith))
@@ -31,4 +19,4 @@ returns-3 c = same-codes (then-added (c .before .before .copies .ensures) (c .pu
 pub exactly-spec : {M : Type 1} → statement M
 exactly-spec =
     tie.close
-    (tie.spec returns push-requires returns-2 sub-joins copies-requires pushes-requires returns-3)
+    (tie.spec returns (λ c κs. search needs) returns-2 (λ c. search needs) (λ c κs. search needs) (λ c κs. search needs) returns-3)

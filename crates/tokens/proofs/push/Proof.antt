@@ -7,15 +7,6 @@ use Rattle.tokens.proofs.Laws.{pushed, full}
 use Rattle.tokens.proofs.push.Statement.{statement}
 use Rattle.tokens.proofs.push.Tie as tie
 
-mul-a : tie.Need-mul-a
-mul-a c = search needs
-
-element-write-a : tie.Need-element-write-a
-element-write-a c = search needs
-
-add-result : tie.Need-add-result
-add-result c = search needs
-
 returns : tie.Need-returns
 returns c = pushed (c .before .args .a .now) (c .before .args .len) (c .before .args .code) (omega arith)
 
@@ -23,4 +14,4 @@ returns-2 : tie.Need-returns-2
 returns-2 c = full (c .before .args .a .now) (c .before .args .len) (c .before .args .code ∷ []) (omega arith)
 
 pub push-spec : {M : Type 1} → statement M
-push-spec = tie.close (tie.spec mul-a element-write-a add-result returns returns-2)
+push-spec = tie.close (tie.spec (λ c. search needs) (λ c. search needs) (λ c. search needs) returns returns-2)

@@ -20,15 +20,6 @@ abbrev μ-loop : tie.MeasureT-loop
 loop-holds : tie.Need-loop-holds Inv-loop μ-loop
 loop-holds c = (omega arith, added-none _ _)
 
-push-requires : tie.Need-push-requires Inv-loop μ-loop
-push-requires c κs = search needs
-
-add-i : tie.Need-add-i Inv-loop μ-loop
-add-i c = search needs
-
-loop-less : tie.Need-loop-less Inv-loop μ-loop
-loop-less c = search needs
-
 loop-again : tie.Need-loop-again Inv-loop μ-loop
 loop-again c = (omega arith, same-added (added-more (c .before .before .before .loop .inv .1) (c .push .ensures)) (replicate-more (c .before .before .before .loop .i) (c .before .before .before .before .args .code)))
 
@@ -38,4 +29,4 @@ returns c = let e : c .before .loop .i ≡ c .before .before .args .n = omega ar
 pub pushes-spec : {M : Type 1} → statement M
 pushes-spec =
     tie.close
-    (tie.spec Inv-loop μ-loop loop-holds push-requires add-i loop-less loop-again returns)
+    (tie.spec Inv-loop μ-loop loop-holds (λ c κs. search needs) (λ c. search needs) (λ c. search needs) loop-again returns)

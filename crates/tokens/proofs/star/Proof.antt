@@ -5,11 +5,8 @@ use Rattle.tokens.proofs.Laws.{kept, then-added}
 use Rattle.tokens.proofs.star.Statement.{statement}
 use Rattle.tokens.proofs.star.Tie as tie
 
-push-requires : tie.Need-push-requires
-push-requires c κs = search needs
-
 returns : tie.Need-returns
 returns c = then-added (kept _ _ _) (c .push .ensures)
 
 pub star-spec : {M : Type 1} → statement M
-star-spec = tie.close (tie.spec push-requires returns)
+star-spec = tie.close (tie.spec (λ c κs. search needs) returns)

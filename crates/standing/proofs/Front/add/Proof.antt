@@ -11,17 +11,11 @@ use borrow.Author.Needs.{needs}
 use Rattle.standing.proofs.Front.add.Statement.{statement}
 use Rattle.standing.proofs.Front.add.Tie as tie
 
-has-requires : tie.Need-has-requires
-has-requires c κs = search needs
-
 returns : tie.Need-returns
 returns c =
     let a = c .before .before .args in
     let h = c .before .before .pre in
     read-again (gathered (a .list .now) (a .self)) (a .p) (h .0) (h .1) (h .2) (sym (c .before .has .ensures) ∙ c .if1 .taken)
-
-cast-list : tie.Need-cast-list
-cast-list c = search needs
 
 element-write-list : tie.Need-element-write-list
 element-write-list c =
@@ -29,15 +23,6 @@ element-write-list c =
     let h = c .before .before .pre in
     let room = read-room (gathered (a .list .now) (a .self)) (a .p) (h .0) (h .1) (h .2) (sym (c .before .has .ensures) ∙ c .if1 .left) in
     omega arith
-
-add-t9 : tie.Need-add-t9
-add-t9 c = search needs
-
-shl-union : tie.Need-shl-union
-shl-union c = search needs
-
-union-requires : tie.Need-union-requires
-union-requires c κs = search needs
 
 returns-2 : tie.Need-returns-2
 returns-2 c =
@@ -50,11 +35,11 @@ pub add-spec : {M : Type 1} → statement M
 add-spec =
     tie.close
     (tie.spec
-    has-requires
+    (λ c κs. search needs)
     returns
-    cast-list
+    (λ c. search needs)
     element-write-list
-    add-t9
-    shl-union
-    union-requires
+    (λ c. search needs)
+    (λ c. search needs)
+    (λ c κs. search needs)
     returns-2)

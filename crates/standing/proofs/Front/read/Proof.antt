@@ -15,12 +15,6 @@ returns c =
     let h = c .before .pre in
     rw (c .if1 .taken) (read-end (gathered (a .list .now) (a .self)) (h .0) (h .1))
 
-sub-add : tie.Need-sub-add
-sub-add c = search needs
-
-add-requires : tie.Need-add-requires
-add-requires c κs = search needs
-
 returns-2 : tie.Need-returns-2
 returns-2 c =
     let x = c .before .before .before .before .args .x in
@@ -34,4 +28,4 @@ returns-3 c =
     read-over (gathered (a .list .now) (a .self)) (a .x) (h .0) (h .1) (omega arith)
 
 pub read-spec : {M : Type 1} → statement M
-read-spec = tie.close (tie.spec returns sub-add add-requires returns-2 returns-3)
+read-spec = tie.close (tie.spec returns (λ c. search needs) (λ c κs. search needs) returns-2 returns-3)

@@ -8,15 +8,6 @@ use borrow.Author.Needs.{needs}
 use Rattle.standing.proofs.Front.read_leaf.Statement.{statement}
 use Rattle.standing.proofs.Front.read_leaf.Tie as tie
 
-has-requires : tie.Need-has-requires
-has-requires c κs = search needs
-
-add-read-row : tie.Need-add-read-row
-add-read-row c = search needs
-
-read-row-requires : tie.Need-read-row-requires
-read-row-requires c κs = search needs
-
 returns : tie.Need-returns
 returns c =
     let a = c .before .before .before .before .before .args in
@@ -34,4 +25,4 @@ returns-3 c =
 
 pub read-leaf-spec : {M : Type 1} → statement M
 read-leaf-spec =
-    tie.close (tie.spec has-requires add-read-row read-row-requires returns returns-2 returns-3)
+    tie.close (tie.spec (λ c κs. search needs) (λ c. search needs) (λ c κs. search needs) returns returns-2 returns-3)

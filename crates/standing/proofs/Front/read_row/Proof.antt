@@ -17,12 +17,6 @@ Inv-loop k rows lens list₀ end r₀ i₀ list r i = (end ≤ 4225) × (end ≤
 abbrev μ-loop : tie.MeasureT-loop
 μ-loop k rows lens list₀ end r₀ i₀ list r i = end - i
 
-row-end-requires : tie.Need-row-end-requires Inv-loop μ-loop
-row-end-requires c κs = search needs
-
-mul-i : tie.Need-mul-i Inv-loop μ-loop
-mul-i c = search needs
-
 loop-holds : tie.Need-loop-holds Inv-loop μ-loop
 loop-holds c =
     let a = c .before .args in
@@ -33,20 +27,8 @@ returns c =
     let p = c .before .before .before .loop in
     p .inv .3 (gathered (p .list) (p .r)) (read-stop (gathered (p .list) (p .r)) _ (p .inv .2) (eq-eqb _ 1 (c .if1 .taken)))
 
-element-copy-out-wide : tie.Need-element-copy-out-wide Inv-loop μ-loop
-element-copy-out-wide c = search needs
-
-wide-requires : tie.Need-wide-requires Inv-loop μ-loop
-wide-requires c κs = search needs
-
 read-requires : tie.Need-read-requires Inv-loop μ-loop
 read-requires c κs = (c .before .before .before .before .before .before .loop .inv .2, ne-eqb _ 1 (c .before .before .before .if1 .left))
-
-add-i : tie.Need-add-i Inv-loop μ-loop
-add-i c = search needs
-
-loop-less : tie.Need-loop-less Inv-loop μ-loop
-loop-less c = search needs
 
 loop-again : tie.Need-loop-again Inv-loop μ-loop
 loop-again c =
@@ -69,14 +51,14 @@ read-row-spec =
     (tie.spec
     Inv-loop
     μ-loop
-    row-end-requires
-    mul-i
+    (λ c κs. search needs)
+    (λ c. search needs)
     loop-holds
     returns
-    element-copy-out-wide
-    wide-requires
+    (λ c. search needs)
+    (λ c κs. search needs)
     read-requires
-    add-i
-    loop-less
+    (λ c. search needs)
+    (λ c. search needs)
     loop-again
     returns-2)

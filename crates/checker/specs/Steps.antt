@@ -1,0 +1,34 @@
+-- What the checker's private functions need and hand on.
+-- Assumes nothing.
+use mathlib.Core.Path.{_≡_}
+use Prim.Native.Nat.{ℕ, _-_, _≤_, _<_}
+use mathlib.Core.List.{List}
+use lib.ListN.{length}
+use Rattle.theory.specs.Pattern.{count, Numbered}
+use Rattle.grammar.specs.Grammar.{Alternation}
+use Rattle.grammar.specs.Limits.{Reads}
+use Rattle.grammar.specs.WriteOut.{writeOut}
+use Rattle.verdict.specs.Table.{onto}
+use Rattle.verdict.specs.Code.Found.{Found}
+use Rattle.arrays.specs.declared.Pattern.{Pattern}
+use Rattle.arrays.specs.Decoded.{decode}
+use Rattle.arrays.specs.Finished.{Holds}
+use Rattle.checker.specs.Origins.{Line}
+use Rattle.checker.specs.Verdicts.{resultOf}
+use Rattle.checker.specs.declared.Verdict.{Verdict}
+use Rattle.checker.specs.declared.Verdict.the-variants.{Unlike, Refused}
+
+-- The arrays are those of a pattern with at most 64 leaves, numbered from 0.
+pub record Sound (x : Pattern) : Type 0 where
+  pub numbered : Numbered 0 (decode x)
+  pub most : count (decode x) ≤ 64
+  pub holds : Holds x (decode x)
+
+-- The last of the n records in the table t is the witness's: its line w goes to the buffer v, if it is not longer.
+pub data Handed (t : List ℕ) (n : ℕ) (v : List ℕ) : Verdict → List ℕ → Type 0 where
+  given : {w : List ℕ} → Line t (n - 1) w → length w ≤ length v → Handed t n v (Unlike n (length w)) (onto v w)
+  too-long : {w : List ℕ} → Line t (n - 1) w → length v < length w → Handed t n v (Refused 11 0) v
+
+-- What is decided by the arrays of a pattern that is read.
+pub record Decides (x : Pattern) (t v : List ℕ) (y : Verdict) (t′ v′ : List ℕ) : Type 0 where
+  pub found : {p : List ℕ} {a : Alternation} → Reads p a → decode x ≡ writeOut a → Found p t v (resultOf y) t′ v′
