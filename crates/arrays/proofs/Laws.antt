@@ -12,8 +12,10 @@ use lib.Dec.{T, eqb, eqb→eq, eqb-refl, ltb, lt→ltb}
 use Rattle.theory.specs.Pattern.{Re, empty, leaf, seq, alt, star, count, Numbered, has}
 use Rattle.theory.proofs.Tests.{T-true, same-test, or-left, or-right, or-cases, either}
 use Rattle.theory.proofs.Equations.{Leaf, seq-left, seq-right, alt-left, alt-right, under}
+use Rattle.grammar.specs.Code.Codes.{PartKind, anEmpty, aSequence, anAlternation, aStar, aLeaf, partKind}
 use Rattle.arrays.specs.declared.Pattern.{Pattern}
-use Rattle.arrays.specs.Decoded.{hasBit, leafOf, middle, partOf, part, decode}
+use Rattle.words.specs.Sets.{hasBit}
+use Rattle.arrays.specs.Decoded.{leafOf, middle, partOf, part, decode}
 
 -- A byte that the mask of a leaf has.
 abbrev held : List ℕ → ℕ → ℕ → Bool
@@ -34,19 +36,19 @@ leaf-by masks p = go (ltb p 64)
     go true = one
     go false = no-leaf
 
-part-of-by : (masks : List ℕ) (k : ℕ) {w l r : Re} → ByMasks masks w → ByMasks masks l → ByMasks masks r → ByMasks masks (partOf masks k w l r)
-part-of-by masks zero a b c = no-leaf
-part-of-by masks (suc zero) a b c = two-seq b c
-part-of-by masks (suc (suc zero)) a b c = two-alt b c
-part-of-by masks (suc (suc (suc zero))) a b c = below a
-part-of-by masks (suc (suc (suc (suc p)))) a b c = leaf-by masks p
+part-of-by : (masks : List ℕ) (k : PartKind) {w l r : Re} → ByMasks masks w → ByMasks masks l → ByMasks masks r → ByMasks masks (partOf masks k w l r)
+part-of-by masks anEmpty a b c = no-leaf
+part-of-by masks aSequence a b c = two-seq b c
+part-of-by masks anAlternation a b c = two-alt b c
+part-of-by masks aStar a b c = below a
+part-of-by masks (aLeaf p) a b c = leaf-by masks p
 
 part-by : (f : ℕ) (kinds sizes masks : List ℕ) (low end : ℕ) → ByMasks masks (part f kinds sizes masks low end)
 unfolding part
 part-by zero kinds sizes masks low end = no-leaf
 part-by (suc f) kinds sizes masks low zero = no-leaf
 part-by (suc f) kinds sizes masks low (suc last) =
-    go (ltb last low) (part-of-by masks (getD kinds last 0) (part-by f kinds sizes masks low last) (part-by f kinds sizes masks low (middle sizes low last)) (part-by f kinds sizes masks (middle sizes low last) last))
+    go (ltb last low) (part-of-by masks (partKind (getD kinds last 0)) (part-by f kinds sizes masks low last) (part-by f kinds sizes masks low (middle sizes low last)) (part-by f kinds sizes masks (middle sizes low last) last))
   where
     go : (c : Bool) {r : Re} → ByMasks masks r → ByMasks masks (cond c empty r)
     go true h = no-leaf

@@ -5,5 +5,4 @@ mod Masks
 mod Parts
 mod Right
 -- For the layers above.
-pub mod Bits
 pub mod Laws

@@ -10,19 +10,24 @@ use native.Mathlib.Decide.{decLt}
 use lib.ListN.{length, getD, set, drop, replicate, length-set, getD-replicate}
 use lib.Seq.{getD-set-same, getD-set-other}
 use lib.Dec.{eqb, ltb}
+use lib.Bits.{bitOr}
 use borrow.Author.Count.{below-more}
 use borrow.Author.Tests.{lt-ltb, le-ltb, eq-eqb, ne-eqb, eqb-true, ltb-true}
 use Rattle.grammar.specs.Code.Codes.{leafHolds}
-use Rattle.arrays.specs.Decoded.{hasBit}
-use Rattle.arrays.specs.Passes.{Union, Added, Places, Marked, MarkedTo, Masked, Turn}
-use Rattle.arrays.proofs.Bits.{no-bit, or-false, and-true, and-false}
+use Rattle.words.specs.Sets.{hasBit, withLeafIf}
+use Rattle.arrays.specs.Passes.{Places, Marked, MarkedTo, Masked, Turn}
+use Rattle.words.proofs.Bits.{no-bit, or-bit, with-if-bit}
+use Rattle.theory.proofs.Tests.{or-false, and-true, and-false}
 
 pub no-places : (places : List ℕ) (q : ℕ) → Places places 0 q 0
 no-places places q p = rw (no-bit p, le-ltb p 0 (omega arith))
 
-pub places-more : (places : List ℕ) (n q x r : ℕ) → Places places n q x → Added (eqb (getD places n 0) q) x n r → Places places (n + 1) q r
-places-more places n q x r h a p = go (decLt p n) (decLt n p)
+pub places-more : (places : List ℕ) (n q x r : ℕ) → n < 64 → Places places n q x → r ≡ withLeafIf (eqb (getD places n 0) q) x n → Places places (n + 1) q r
+places-more places n q x r few h is p = go (decLt p n) (decLt n p)
   where
+    a : (k : ℕ) → hasBit r k ≡ (hasBit x k || (eqb (getD places n 0) q && eqb k n))
+    a k = ap (λ y. hasBit y k) is ∙ with-if-bit (eqb (getD places n 0) q) x n k few
+
     go : Dec (p < n) → Dec (n < p) → hasBit r p ≡ (ltb p (n + 1) && eqb (getD places p 0) q)
     go (yes l) d = a p ∙ rw (h p, lt-ltb p n l, ne-eqb p n (λ e. omega arith), lt-ltb p (n + 1) (omega arith), and-false (eqb (getD places n 0) q)) (or-false _)
     go (no l) (yes m) = a p ∙ rw (h p, le-ltb p n (omega arith), ne-eqb p n (λ e. omega arith), le-ltb p (n + 1) (omega arith)) (and-false (eqb (getD places n 0) q))
@@ -31,8 +36,8 @@ places-more places n q x r h a p = go (decLt p n) (decLt n p)
         rw e (a n ∙ rw (h n, le-ltb n n (omega arith), eq-eqb n n refl, lt-ltb n (n + 1) (omega arith)) (and-true (eqb (getD places n 0) q)))
 
 -- The mask of a byte, by what the code learnt of the set.
-pub marked-some : (s : List ℕ) (q m b x r : ℕ) (t : Bool) → t ≡ leafHolds (drop q s) b → t ≡ true → Union x m r → Marked s q m b x r
-marked-some s q m b x r t e h u p = u p ∙ rw (← e, h)
+pub marked-some : (s : List ℕ) (q m b x r : ℕ) (t : Bool) → t ≡ leafHolds (drop q s) b → t ≡ true → r ≡ bitOr x m → Marked s q m b x r
+marked-some s q m b x r t e h u p = ap (λ y. hasBit y p) u ∙ or-bit x m p ∙ rw (← e, h)
 
 pub marked-none : (s : List ℕ) (q m b x : ℕ) (t : Bool) → t ≡ leafHolds (drop q s) b → t ≡ false → Marked s q m b x x
 marked-none s q m b x t e h p = rw (← e, h) (sym (or-false (hasBit x p)))
@@ -87,7 +92,10 @@ turn-done s places n done p masks l h = record { long = l; kept = λ k. k; more 
 -- and at one that is not: m are the leaves at its place.
 module _
     (s places : List ℕ) (n done p m done′ : ℕ) (masks masks′ : List ℕ) (below : p < n) (alike : Places places n (getD places p 0) m)
-    (all : MarkedTo s (getD places p 0) m 256 masks masks′) (joined : Union done m done′) where
+    (all : MarkedTo s (getD places p 0) m 256 masks masks′) (union : done′ ≡ bitOr done m) where
+  joined : (k : ℕ) → hasBit done′ k ≡ (hasBit done k || hasBit m k)
+  joined k = ap (λ y. hasBit y k) union ∙ or-bit done m k
+
   one-place : (k : ℕ) → hasBit m k ≡ true → getD places k 0 ≡ getD places p 0
   one-place k e = eqb-true _ _ (and-right (ltb k n) _ (sym (alike k) ∙ e))
 

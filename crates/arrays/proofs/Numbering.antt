@@ -11,30 +11,30 @@ use lib.Dec.{ltb}
 use lib.ListN.{length, getD, set, take, drop, length-set, length-take, drop-of-length-le}
 use lib.Seq.{take-suc-set, drop-cons, getD-take, length-take-le, take-nil}
 use borrow.Author.Tests.{lt-ltb, le-ltb}
-use Rattle.arrays.specs.Passes.{kindOf, after, placesWith, Noted, kindsFrom, placesOf, Numbered}
+use Rattle.arrays.specs.Passes.{kindOf, leavesWith, placesWith, Noted, kindsFrom, placesOf, Numbered}
 
 -- The kinds that stand, and those of the codes from i on.
 abbrev KindsLeft : List ℕ → List ℕ → ℕ → ℕ → List ℕ
 KindsLeft kinds l i p = take i kinds ++ kindsFrom p (drop i l)
 
 kinds-turn : (kinds l : List ℕ) (i p : ℕ) → i < length kinds → i < length l
-    → KindsLeft (set kinds i (kindOf p (getD l i 0))) l (i + 1) (after p (getD l i 0)) ≡ KindsLeft kinds l i p
+    → KindsLeft (set kinds i (kindOf p (getD l i 0))) l (i + 1) (leavesWith p (getD l i 0)) ≡ KindsLeft kinds l i p
 unfolding kindsFrom
 kinds-turn kinds l i p h k =
     rw (add-one i, take-suc-set kinds i (kindOf p (getD l i 0)) h, drop-cons l i 0 k)
-    (append-assoc (take i kinds) (kindOf p (getD l i 0) ∷ []) (kindsFrom (after p (getD l i 0)) (drop (suc i) l)))
+    (append-assoc (take i kinds) (kindOf p (getD l i 0) ∷ []) (kindsFrom (leavesWith p (getD l i 0)) (drop (suc i) l)))
 
 -- The places that stand, and those of the leaves from i on, as many as there is room for.
 abbrev PlacesLeft : List ℕ → List ℕ → ℕ → ℕ → List ℕ
 PlacesLeft places l i p = take p places ++ take (64 - p) (placesOf (drop i l))
 
 placed : (places l : List ℕ) (p c : ℕ) → p ≤ 64 → length places ≡ 64
-    → take (after p c) (placesWith p c places) ++ take (64 - after p c) (placesOf l) ≡ take p places ++ take (64 - p) (placesOf (c ∷ l))
+    → take (leavesWith p c) (placesWith p c places) ++ take (64 - leavesWith p c) (placesOf l) ≡ take p places ++ take (64 - p) (placesOf (c ∷ l))
 unfolding placesOf
 placed places l p c h k = go (decLt c 4) (decLt p 64)
   where
     go : Dec (c < 4) → Dec (p < 64)
-        → take (after p c) (placesWith p c places) ++ take (64 - after p c) (placesOf l) ≡ take p places ++ take (64 - p) (placesOf (c ∷ l))
+        → take (leavesWith p c) (placesWith p c places) ++ take (64 - leavesWith p c) (placesOf l) ≡ take p places ++ take (64 - p) (placesOf (c ∷ l))
     go (yes a) d = rw (lt-ltb c 4 a)
     go (no a) (yes b) =
         let e : 64 - p ≡ suc (64 - (p + 1)) = omega arith in
@@ -45,13 +45,13 @@ placed places l p c h k = go (decLt c 4) (decLt p 64)
         rw (le-ltb c 4 (omega arith), le-ltb p 64 (omega arith), e)
 
 places-turn : (places l : List ℕ) (i p : ℕ) → p ≤ 64 → length places ≡ 64 → i < length l
-    → PlacesLeft (placesWith p (getD l i 0) places) l (i + 1) (after p (getD l i 0)) ≡ PlacesLeft places l i p
+    → PlacesLeft (placesWith p (getD l i 0) places) l (i + 1) (leavesWith p (getD l i 0)) ≡ PlacesLeft places l i p
 places-turn places l i p h k m = rw (add-one i, drop-cons l i 0 m) (placed places (drop (suc i) l) p (getD l i 0) h k)
 
 -- The bounds of a code c before the codes l: at most 64 leaves are counted, no more than there are, and no kind is a leaf past them.
 record Bounds (p c : ℕ) (l : List ℕ) : Type 0 where
-  room : p ≤ 64 → after p c ≤ 64
-  most : after p c + length (placesOf l) ≤ p + length (placesOf (c ∷ l))
+  room : p ≤ 64 → leavesWith p c ≤ 64
+  most : leavesWith p c + length (placesOf l) ≤ p + length (placesOf (c ∷ l))
   below : kindOf p c < 4 + (p + length (placesOf (c ∷ l)))
 
 bounds : (p c : ℕ) (l : List ℕ) → Bounds p c l
@@ -75,7 +75,7 @@ pub kinds-below : (p : ℕ) (l : List ℕ) (i : ℕ) → getD (kindsFrom p l) i 
 unfolding kindsFrom
 kinds-below p [] i = omega arith
 kinds-below p (c ∷ l) zero = bounds p c l .below
-kinds-below p (c ∷ l) (suc i) = omega (arith, kinds-below (after p c) l i, bounds p c l .most)
+kinds-below p (c ∷ l) (suc i) = omega (arith, kinds-below (leavesWith p c) l i, bounds p c l .most)
 
 -- One code: a kind, a leaf, and a leaf for which there is no room.
 pub noted-kind : (c i p : ℕ) (kinds places : List ℕ) → c < 4 → Noted c i p kinds places (set kinds i c) places p

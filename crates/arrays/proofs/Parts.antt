@@ -10,18 +10,22 @@ use lib.Dec.{ltb}
 use borrow.Author.Tests.{lt-ltb, le-ltb, le-leb, ne-eqb, ltb-true}
 use Rattle.theory.specs.Pattern.{Re, empty, leaf, seq, alt, star}
 use Rattle.grammar.specs.Code.Tokens.{nodes, Token, nil, both, or, many, byte, tokens}
-use Rattle.grammar.specs.Code.Codes.{leafHolds}
+use Rattle.grammar.specs.Code.Codes.{PartKind, anEmpty, aSequence, anAlternation, aStar, aLeaf, partKind, leafHolds}
 use Rattle.grammar.proofs.Tokens.{nodes-pos, At, at, at-token, head, seq-right, seq-left, alt-right, alt-left, star-part, tokens-length}
-use Rattle.arrays.specs.Decoded.{hasBit, middle, partOf, part}
+use Rattle.words.specs.Sets.{hasBit}
+use Rattle.arrays.specs.Decoded.{middle, partOf, part}
 use Rattle.arrays.specs.Passes.{leftSize, sizeOf, Sized, Masked}
 
 -- The token of a kind.
+abbrev pub tokenAt : List ℕ → List ℕ → PartKind → Token
+tokenAt s places anEmpty = nil
+tokenAt s places aSequence = both
+tokenAt s places anAlternation = or
+tokenAt s places aStar = many
+tokenAt s places (aLeaf p) = byte p (λ b. ltb b 256 && leafHolds (drop (getD places p 0) s) b)
+
 abbrev pub kindToken : List ℕ → List ℕ → ℕ → Token
-kindToken s places zero = nil
-kindToken s places (suc zero) = both
-kindToken s places (suc (suc zero)) = or
-kindToken s places (suc (suc (suc zero))) = many
-kindToken s places (suc (suc (suc (suc p)))) = byte p (λ b. ltb b 256 && leafHolds (drop (getD places p 0) s) b)
+kindToken s places k = tokenAt s places (partKind k)
 
 -- A part by its last token.
 abbrev tokenPart : Token → Re → Re → Re → Re
@@ -55,7 +59,7 @@ bytes-same s t h = fun-ext λ b. go b (ltb b 256) (ltb-true b 256)
     go b false f = refl
 
 part-token : (s places masks : List ℕ) (n k : ℕ) (whole left right : Re) → Masked s places (λ p. ltb p n) masks → n ≤ 64 → k < 4 + n
-    → partOf masks k whole left right ≡ tokenPart (kindToken s places k) whole left right
+    → partOf masks (partKind k) whole left right ≡ tokenPart (kindToken s places k) whole left right
 part-token s places masks n zero whole left right h m b = refl
 part-token s places masks n (suc zero) whole left right h m b = refl
 part-token s places masks n (suc (suc zero)) whole left right h m b = refl

@@ -17,7 +17,7 @@ use Rattle.theory.proofs.Numbering.{number-count}
 use Rattle.grammar.proofs.Size.{number-nodes}
 use Rattle.grammar.proofs.Tokens.{nodes-pos, at-whole, tokens-length, tokens-number, leafs-tokens}
 use Rattle.arrays.specs.Decoded.{part, decode}
-use Rattle.arrays.specs.Passes.{after, kindsFrom, placesOf, Sized, Masked, Numbered}
+use Rattle.arrays.specs.Passes.{leavesWith, kindsFrom, placesOf, Sized, Masked, Numbered}
 use Rattle.arrays.specs.Finished.{Finished}
 use Rattle.arrays.proofs.Numbering.{kinds-below}
 use Rattle.arrays.proofs.Parts.{kindToken, part-right}
@@ -46,7 +46,7 @@ renumbered s places (suc (suc (suc (suc q))) ∷ l) a p h e m =
 length-kinds : (p : ℕ) (l : List ℕ) → length (kindsFrom p l) ≡ length l
 unfolding kindsFrom
 length-kinds p [] = refl
-length-kinds p (c ∷ l) = ap suc (length-kinds (after p c) l)
+length-kinds p (c ∷ l) = ap suc (length-kinds (leavesWith p c) l)
 
 length-places : (s l : List ℕ) → length (placesOf l) ≡ leafs (map (tokenOf s) l)
 unfolding placesOf leafs

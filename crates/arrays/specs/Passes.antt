@@ -6,36 +6,36 @@ use mathlib.Core.Bool.{Bool, true, _&&_, _||_, cond}
 use mathlib.Core.List.{List, [], _∷_}
 use lib.ListN.{length, getD, set, take, drop}
 use lib.Dec.{eqb, ltb, leb}
-use Rattle.grammar.specs.Code.Codes.{leafHolds}
-use Rattle.arrays.specs.Decoded.{hasBit}
+use Rattle.grammar.specs.Code.Codes.{emptyKind, starKind, firstLeaf, leafHolds}
+use Rattle.words.specs.Sets.{hasBit}
 
--- Kinds. A code below 4 is a kind; any other is the leaf p, if p is below 64.
+-- Kinds. A code below the leaves' is a kind; any other is the leaf p, if p is below 64.
 abbrev pub kindOf : ℕ → ℕ → ℕ
-kindOf p c = cond (ltb c 4) c (cond (ltb p 64) (4 + p) 0)
+kindOf p c = cond (ltb c firstLeaf) c (cond (ltb p 64) (firstLeaf + p) emptyKind)
 
 -- How many leaves there are after the code c, if p stand before it. At most 64 are counted.
-abbrev pub after : ℕ → ℕ → ℕ
-after p c = cond (ltb c 4) p (cond (ltb p 64) (p + 1) p)
+abbrev pub leavesWith : ℕ → ℕ → ℕ
+leavesWith p c = cond (ltb c firstLeaf) p (cond (ltb p 64) (p + 1) p)
 
 -- The places of the leaves' texts, with that of the code c if it is a leaf.
 abbrev pub placesWith : ℕ → ℕ → List ℕ → List ℕ
-placesWith p c places = cond (ltb c 4) places (cond (ltb p 64) (set places p (c - 4)) places)
+placesWith p c places = cond (ltb c firstLeaf) places (cond (ltb p 64) (set places p (c - firstLeaf)) places)
 
 -- One code c at the place i, with p leaves before it.
 pub record Noted (c i p : ℕ) (kinds places kinds′ places′ : List ℕ) (p′ : ℕ) : Type 0 where
   pub kind : kinds′ ≡ set kinds i (kindOf p c)
   pub place : places′ ≡ placesWith p c places
-  pub leaves : p′ ≡ after p c
+  pub leaves : p′ ≡ leavesWith p c
 
 -- The kinds of the codes, their leaves numbered from p on,
 unfoldable pub kindsFrom : ℕ → List ℕ → List ℕ
 kindsFrom p [] = []
-kindsFrom p (c ∷ l) = kindOf p c ∷ kindsFrom (after p c) l
+kindsFrom p (c ∷ l) = kindOf p c ∷ kindsFrom (leavesWith p c) l
 
 -- and the places of the leaves' texts.
 unfoldable pub placesOf : List ℕ → List ℕ
 placesOf [] = []
-placesOf (c ∷ l) = cond (ltb c 4) (placesOf l) ((c - 4) ∷ placesOf l)
+placesOf (c ∷ l) = cond (ltb c firstLeaf) (placesOf l) ((c - firstLeaf) ∷ placesOf l)
 
 -- All codes l: their kinds, and the places of the first 64 leaves.
 pub record Numbered (l kinds places : List ℕ) (leaves : ℕ) : Type 0 where
@@ -49,7 +49,7 @@ leftSize sizes m = cond (leb (getD sizes m 0) m) (getD sizes (m - getD sizes m 0
 
 -- The size of a part of that kind, from the size of its last part and of the one before.
 abbrev pub sizeOf : ℕ → ℕ → ℕ → ℕ
-sizeOf kind a b = cond (eqb kind 0) 1 (cond (ltb 3 kind) 1 (cond (eqb kind 3) (a + 1) (a + b + 1)))
+sizeOf kind a b = cond (eqb kind emptyKind) 1 (cond (ltb starKind kind) 1 (cond (eqb kind starKind) (a + 1) (a + b + 1)))
 
 -- The size of a part of that kind that ends at the place.
 abbrev pub sizeAt : ℕ → List ℕ → ℕ → ℕ
@@ -64,15 +64,7 @@ Small sizes i = (j : ℕ) → j < i → getD sizes j 0 ≤ j + 1
 abbrev pub Sized : List ℕ → ℕ → List ℕ → Type 0
 Sized kinds n sizes = (i : ℕ) → i < n → getD sizes i 0 ≡ sizeAt (getD kinds i 0) sizes i
 
--- Masks. Sets of leaves as numbers: r is the union of x and y,
-abbrev pub Union : ℕ → ℕ → ℕ → Type 0
-Union x y r = (p : ℕ) → hasBit r p ≡ (hasBit x p || hasBit y p)
-
--- r is x, with p if `is`,
-abbrev pub Added : Bool → ℕ → ℕ → ℕ → Type 0
-Added is x p r = (k : ℕ) → hasBit r k ≡ (hasBit x k || (is && eqb k p))
-
--- r is the leaves below n whose text begins at the place q,
+-- Masks. r is the leaves below n whose text begins at the place q,
 abbrev pub Places : List ℕ → ℕ → ℕ → ℕ → Type 0
 Places places n q r = (p : ℕ) → hasBit r p ≡ (ltb p n && eqb (getD places p 0) q)
 

@@ -4,16 +4,18 @@ ghost use mathlib.Core.Path.{_≡_};
 ghost use Prim.Native.Nat.{_+_, _<_, _≤_, min};
 ghost use lib.ListN.{length, take};
 ghost use lib.Dec.{ltb};
-ghost use Rattle.arrays.specs.Decoded.{hasBit, blank};
-ghost use Rattle.arrays.specs.Passes.{Noted, Numbered, Small, leftSize, sizeOf, sizeAt, Sized, Union, Added, Places, Marked, MarkedTo, Masked, Turn};
+ghost use Rattle.grammar.specs.Code.Tokens.{maxParts};
+ghost use Rattle.grammar.specs.Code.Codes.{firstLeaf};
+ghost use Rattle.arrays.specs.Decoded.{blank};
+ghost use Rattle.arrays.specs.Passes.{Noted, Numbered, Small, leftSize, sizeOf, sizeAt, Sized, Places, Marked, MarkedTo, Masked, Turn};
 ghost use Rattle.arrays.specs.Finished.{Finished};
 
 // Post-order: a part's last place has its kind and its size, its parts stand before it.
 pub struct Pattern {
-    // 0 the empty sequence, 1 a sequence of two parts, 2 an alternation of two, 3 a star, 4 + p the leaf p
-    pub kinds: [u8; 2303],
+    // the kind of the part that ends here: one of the kinds below, or FIRST_LEAF + p for the leaf p
+    pub kinds: [u8; Pattern::MAX_PARTS],
     // how many places the part that ends here has
-    pub sizes: [u16; 2303],
+    pub sizes: [u16; Pattern::MAX_PARTS],
     pub len: usize,
     // bit p of masks[b]: the set of the leaf p holds the byte b
     pub masks: [u64; 256],
@@ -30,13 +32,26 @@ impl Pattern {
     // The most parts of a pattern within the limits.
     pub const MAX_PARTS: usize = 2303;
 
+    // The kinds of parts: the empty sequence, a sequence of two parts, an alternation of two, a star, and then the leaves.
+    pub const EMPTY: u8 = 0;
+
+    pub const SEQUENCE: u8 = 1;
+
+    pub const ALTERNATION: u8 = 2;
+
+    pub const STAR: u8 = 3;
+
+    pub const FIRST_LEAF: u8 = 4;
+
+    pub const LAST_LEAF: u8 = 67;
+
     // No parts and no leaves.
     pub fn empty() -> Pattern
         ensures blank { λ r. ⌜ r ≡ blank ⌝ }
     {
         Pattern {
-            kinds: [0u8; 2303],
-            sizes: [0u16; 2303],
+            kinds: [0u8; Pattern::MAX_PARTS],
+            sizes: [0u16; Pattern::MAX_PARTS],
             len: 0,
             masks: [0u64; 256],
             leaves: 0,
@@ -44,46 +59,49 @@ impl Pattern {
     }
 }
 
-fn wide(x: u16) -> usize
-    ensures { λ r. ⌜ r ≡ x ⌝ }
-{
-    x as usize
-}
+// The reader's code of a part is its kind, and that of a leaf this and the place of its text.
+pub const LEAF_CODE: u16 = Pattern::FIRST_LEAF as u16;
 
 // The kind of the leaf p.
 fn leaf_kind(p: usize) -> u8
     requires { ⌜ p < 64 ⌝ }
-    ensures { λ r. ⌜ r ≡ 4 + p ⌝ }
+    ensures { λ r. ⌜ r ≡ firstLeaf + p ⌝ }
 {
-    (4 + p) as u8
+    Pattern::FIRST_LEAF + p as u8
 }
 
 // The first pass, at the code c of the place i: its kind, and the place in the text of a leaf. p leaves stand before it; a 65th is not kept.
-fn note(c: u16, i: usize, p: usize, kinds: &mut [u8; 2303], places: &mut [u16; 64]) -> usize
-    requires { ⌜ (i < 2303) × (p ≤ 64) ⌝ }
+fn note(
+    c: u16,
+    i: usize,
+    p: usize,
+    kinds: &mut [u8; Pattern::MAX_PARTS],
+    places: &mut [u16; 64],
+) -> usize
+    requires { ⌜ (i < maxParts) × (p ≤ 64) ⌝ }
     ensures { λ r. ⌜ Noted c i p (now (kinds .entry)) (now (places .entry)) (now (kinds .exit)) (now (places .exit)) r ⌝ }
 {
-    if c < 4 {
+    if c < LEAF_CODE {
         kinds[i] = c as u8;
         return p;
     }
-    if p < 64 {
+    if p < words::LEAVES {
         kinds[i] = leaf_kind(p);
-        places[p] = c - 4;
+        places[p] = c - LEAF_CODE;
         return p + 1;
     }
-    kinds[i] = 0;
+    kinds[i] = Pattern::EMPTY;
     p
 }
 
 // The kinds of the first n codes, the places of their leaves, and how many leaves there are.
 fn number_leaves(
-    codes: &[u16; 2303],
+    codes: &[u16; Pattern::MAX_PARTS],
     n: usize,
-    kinds: &mut [u8; 2303],
+    kinds: &mut [u8; Pattern::MAX_PARTS],
     places: &mut [u16; 64],
 ) -> usize
-    requires { ⌜ (n ≤ 2303) × (n ≤ length (now codes)) × (length (now kinds) ≡ 2303) × (length (now places) ≡ 64) ⌝ }
+    requires { ⌜ (n ≤ maxParts) × (n ≤ length (now codes)) × (length (now kinds) ≡ maxParts) × (length (now places) ≡ 64) ⌝ }
     ensures { λ r. ⌜ Numbered (take n (now (codes .entry))) (take n (now (kinds .exit))) (now (places .exit)) r ⌝ }
 {
     let mut p = 0;
@@ -97,11 +115,11 @@ fn number_leaves(
 }
 
 // The size of the left one of two parts: it ends before the right one, which ends at the place m.
-fn left_size(m: usize, sizes: &[u16; 2303]) -> u16
-    requires { ⌜ m < 2303 ⌝ }
+fn left_size(m: usize, sizes: &[u16; Pattern::MAX_PARTS]) -> u16
+    requires { ⌜ m < maxParts ⌝ }
     ensures { λ r. ⌜ r ≡ leftSize (now (sizes .entry)) m ⌝ }
 {
-    let a = wide(sizes[m]);
+    let a = words::wide_u16(sizes[m]);
     if a <= m {
         return sizes[m - a];
     }
@@ -110,24 +128,24 @@ fn left_size(m: usize, sizes: &[u16; 2303]) -> u16
 
 // The size of a part of that kind: a is the size of its last part, b of the one before.
 fn size_of(kind: u8, a: u16, b: u16) -> u16
-    requires { ⌜ a + b < 2303 ⌝ }
+    requires { ⌜ a + b < maxParts ⌝ }
     ensures { λ r. ⌜ r ≡ sizeOf kind a b ⌝ }
 {
-    if kind == 0 {
+    if kind == Pattern::EMPTY {
         return 1;
     }
-    if 3 < kind {
+    if Pattern::STAR < kind {
         return 1;
     }
-    if kind == 3 {
+    if kind == Pattern::STAR {
         return a + 1;
     }
     a + b + 1
 }
 
 // The second pass, at the place i. What stands before the first place counts as no part.
-fn size_at(kind: u8, i: usize, sizes: &[u16; 2303]) -> u16
-    requires { ⌜ (i < 2303) × Small (now sizes) i ⌝ }
+fn size_at(kind: u8, i: usize, sizes: &[u16; Pattern::MAX_PARTS]) -> u16
+    requires { ⌜ (i < maxParts) × Small (now sizes) i ⌝ }
     ensures { λ r. ⌜ r ≡ sizeAt kind (now (sizes .entry)) i ⌝ }
 {
     if i == 0 {
@@ -138,8 +156,8 @@ fn size_at(kind: u8, i: usize, sizes: &[u16; 2303]) -> u16
 }
 
 // The size of the part that ends at each of the first n places.
-fn fill_sizes(kinds: &[u8; 2303], n: usize, sizes: &mut [u16; 2303])
-    requires { ⌜ (n ≤ 2303) × (length (now sizes) ≡ 2303) ⌝ }
+fn fill_sizes(kinds: &[u8; Pattern::MAX_PARTS], n: usize, sizes: &mut [u16; Pattern::MAX_PARTS])
+    requires { ⌜ (n ≤ maxParts) × (length (now sizes) ≡ maxParts) ⌝ }
     ensures { λ _. ⌜ Sized (now (kinds .entry)) n (now (sizes .exit)) ⌝ }
 {
     let mut i = 0;
@@ -150,30 +168,6 @@ fn fill_sizes(kinds: &[u8; 2303], n: usize, sizes: &mut [u16; 2303])
     }
 }
 
-fn has(x: u64, p: usize) -> bool
-    requires { ⌜ p < 64 ⌝ }
-    ensures { λ r. ⌜ r ≡ hasBit x p ⌝ }
-{
-    x >> p & 1 == 1
-}
-
-fn union(x: u64, y: u64) -> u64
-    ensures { λ r. ⌜ Union x y r ⌝ }
-{
-    x | y
-}
-
-// The set x, with p if `is`.
-fn add_if(is: bool, x: u64, p: usize) -> u64
-    requires { ⌜ p < 64 ⌝ }
-    ensures { λ r. ⌜ Added is x p r ⌝ }
-{
-    if is {
-        return union(x, 1 << p);
-    }
-    x
-}
-
 // The leaves below n whose text begins at q: they have one set.
 fn leaves_at(places: &[u16; 64], n: usize, q: u16) -> u64
     requires { ⌜ n ≤ 64 ⌝ }
@@ -182,7 +176,7 @@ fn leaves_at(places: &[u16; 64], n: usize, q: u16) -> u64
     let mut x = 0u64;
     let mut p = 0;
     while p < n {
-        x = add_if(places[p] == q, x, p);
+        x = words::with_if(places[p] == q, x, p);
         p += 1;
     }
     x
@@ -194,7 +188,7 @@ fn mark(s: &[u8], q: usize, m: u64, b: usize, x: u64) -> u64
     ensures { λ r. ⌜ Marked (now (s .entry)) q m b x r ⌝ }
 {
     if scanner::leaf_holds(s, q, b as u8) {
-        return union(x, m);
+        return words::union(x, m);
     }
     x
 }
@@ -224,13 +218,13 @@ fn mark_leaf(
     requires { ⌜ (n ≤ 64) × (p < n) × (length (now masks) ≡ 256) ⌝ }
     ensures { λ r. ⌜ Turn (now (s .entry)) (now (places .entry)) n done p (now (masks .entry)) (now (masks .exit)) r ⌝ }
 {
-    if has(done, p) {
+    if words::has(done, p) {
         return done;
     }
     let q = places[p];
     let m = leaves_at(places, n, q);
-    mark_all(s, wide(q), m, masks);
-    union(done, m)
+    mark_all(s, words::wide_u16(q), m, masks);
+    words::union(done, m)
 }
 
 // The masks of the first n leaves.
@@ -249,20 +243,20 @@ fn masks_of(s: &[u8], places: &[u16; 64], n: usize) -> [u64; 256]
 }
 
 // How many codes there are: no more than the array has.
-fn within(codes: &[u16; 2303], len: usize) -> usize
-    ensures { λ r. ⌜ (r ≤ 2303) × (r ≡ min len (length (now (codes .entry)))) ⌝ }
+fn within(codes: &[u16; Pattern::MAX_PARTS], len: usize) -> usize
+    ensures { λ r. ⌜ (r ≤ maxParts) × (r ≡ min len (length (now (codes .entry)))) ⌝ }
 {
     let all = &codes[..];
     if len < all.len() { len } else { all.len() }
 }
 
 // The pattern whose codes for the text s are the first len ones: its leaves are numbered from 0, left to right.
-pub fn finish(s: &[u8], codes: &[u16; 2303], len: usize) -> Pattern
+pub fn finish(s: &[u8], codes: &[u16; Pattern::MAX_PARTS], len: usize) -> Pattern
     ensures finished { λ r. ⌜ Finished (now (s .entry)) (take len (now (codes .entry))) r ⌝ }
 {
     let n = within(codes, len);
-    let mut kinds = [0u8; 2303];
-    let mut sizes = [0u16; 2303];
+    let mut kinds = [0u8; Pattern::MAX_PARTS];
+    let mut sizes = [0u16; Pattern::MAX_PARTS];
     let mut places = [0u16; 64];
     let leaves = number_leaves(codes, n, &mut kinds, &mut places);
     fill_sizes(&kinds, n, &mut sizes);

@@ -12,7 +12,7 @@ use Rattle.verdict.specs.Table.{onto}
 use Rattle.verdict.specs.Code.Found.{Found}
 use Rattle.arrays.specs.declared.Pattern.{Pattern}
 use Rattle.arrays.specs.Decoded.{decode}
-use Rattle.arrays.specs.Finished.{Holds}
+use Rattle.arrays.specs.Finished.{HoldsPattern}
 use Rattle.checker.specs.Origins.{Line}
 use Rattle.checker.specs.Verdicts.{resultOf}
 use Rattle.checker.specs.declared.Verdict.{Verdict}
@@ -22,7 +22,7 @@ use Rattle.checker.specs.declared.Verdict.the-variants.{Unlike, Refused}
 pub record Sound (x : Pattern) : Type 0 where
   pub numbered : Numbered 0 (decode x)
   pub most : count (decode x) ≤ 64
-  pub holds : Holds x (decode x)
+  pub holds : HoldsPattern x (decode x)
 
 -- The last of the n records in the table t is the witness's: its line w goes to the buffer v, if it is not longer.
 pub data Handed (t : List ℕ) (n : ℕ) (v : List ℕ) : Verdict → List ℕ → Type 0 where

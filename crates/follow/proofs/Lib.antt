@@ -1,6 +1,5 @@
 -- The laws of the follow tables.
 -- Lists of outcomes in arrays.
-mod Bits
 mod Lists
 -- What is collected from a part, by its parts.
 mod Splices

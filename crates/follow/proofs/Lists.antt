@@ -14,10 +14,10 @@ use Rattle.theory.proofs.Tests.{or-left, or-right, or-cases, or-false, either}
 use Rattle.theory.specs.Code.Members.{Once, nil}
 use Rattle.theory.proofs.Members.{Within, gather-append, gather-member, member-from, length-from, once-gather, once-size}
 use Rattle.theory.proofs.Closure.{gather-once}
-use Rattle.arrays.specs.Decoded.{hasBit}
+use Rattle.words.specs.Sets.{hasBit, withLeaf}
 use Rattle.follow.specs.declared.Outcomes.{Outcomes}
-use Rattle.follow.specs.Outcomes.{listed, flag, Good, Lists, With}
-use Rattle.arrays.proofs.Bits.{no-bit}
+use Rattle.follow.specs.Outcomes.{listed, flag, Good, Lists}
+use Rattle.words.proofs.Bits.{no-bit, with-bit}
 
 pub none-lists : Lists (record { items = replicate 65 0; len = 0; set = 0; end = 0 }) []
 none-lists =
@@ -87,10 +87,10 @@ module _ (x : Outcomes) (p : ℕ) (h : p ≤ 64) (g : Good x) where
         let f : member 0 (listed x) ≡ false = rw e at n in
         append-lists (x .set) 1 (λ q l. rw (e, eqb·suc-zero q) (sym (or-false (hasBit (x .set) q)))) (rw (e, f))
 
-    pub append-leaf : (q bits : ℕ) → p ≡ suc q → With (x .set) q bits
+    pub append-leaf : (q bits : ℕ) → p ≡ suc q → bits ≡ withLeaf (x .set) q
         → Lists (record { items = set (x .items) (x .len) p; len = x .len + 1; set = bits; end = x .end }) (gather (listed x) (p ∷ []))
     append-leaf q bits e w =
-        append-lists bits (x .end) (λ k l. rw (e, eqb·suc-suc k q) (w k)) (rw (e, eqb·zero-suc q, or-false (member 0 (listed x))) (g .end))
+        append-lists bits (x .end) (λ k l. rw (e, eqb·suc-suc k q, w) (with-bit (x .set) q k (omega (arith, h)))) (rw (e, eqb·zero-suc q, or-false (member 0 (listed x))) (g .end))
 
   pub add-held : member p (listed x) ≡ true → Lists x (gather (listed x) (p ∷ []))
   add-held e = record { good = g; are = rw e }

@@ -12,6 +12,7 @@ use Rattle.theory.specs.Pattern.{Re, empty, leaf, star}
 use Rattle.theory.specs.Standing.{gather}
 use Rattle.theory.specs.Code.Follow.{follow}
 use Rattle.arrays.specs.Decoded.{middle, part, partOf}
+use Rattle.grammar.specs.Code.Codes.{partKind}
 use Rattle.follow.specs.declared.Outcomes.{Outcomes}
 use Rattle.follow.specs.Outcomes.{listed, Good, Lists}
 use Rattle.follow.specs.Parts.{into, intoAfter, Collects, Stands}
@@ -19,7 +20,7 @@ use Rattle.follow.proofs.Splices.{after-empty, after-leaf, after-other,
 use Rattle.follow.proofs.Parts.{kind-leaf, part-at, by-last}
 
 -- Nothing follows a leaf in a part that does not have it.
-absent-parts : (masks : List ℕ) (p k : ℕ) (w x y : Re) → (k ≡ 4 + p → ⊥) → follow w p ≡ [] → follow x p ≡ [] → follow y p ≡ [] → follow (partOf masks k w x y) p ≡ []
+absent-parts : (masks : List ℕ) (p k : ℕ) (w x y : Re) → (k ≡ 4 + p → ⊥) → follow w p ≡ [] → follow x p ≡ [] → follow y p ≡ [] → follow (partOf masks (partKind k) w x y) p ≡ []
 unfolding follow
 absent-parts masks p zero w x y n ew ex ey = refl
 absent-parts masks p (suc zero) w x y n ew ex ey = rw (ex, ey)
@@ -46,7 +47,7 @@ absent kinds sizes masks p (suc f) low (suc last) n =
         → (low ≤ last → follow (part f kinds sizes masks low (middle sizes low last)) p ≡ [])
         → (low ≤ last → follow (part f kinds sizes masks (middle sizes low last) last) p ≡ [])
         → follow (cond c empty
-        (partOf masks (getD kinds last 0)
+        (partOf masks (partKind (getD kinds last 0))
         (part f kinds sizes masks low last)
         (part f kinds sizes masks low (middle sizes low last))
         (part f kinds sizes masks (middle sizes low last) last))) p ≡ []

@@ -7,6 +7,7 @@ use native.Mathlib.Omega.{arith}
 use lib.ListN.{getD}
 use borrow.Author.Tests.{lt-ltb, le-ltb}
 use Rattle.theory.specs.Pattern.{Re, empty}
+use Rattle.grammar.specs.Code.Codes.{partKind}
 use Rattle.arrays.specs.Decoded.{leafOf, middle, part, partOf}
 use Rattle.follow.specs.declared.Outcomes.{Outcomes}
 use Rattle.follow.specs.Outcomes.{listed, Good, Lists}
@@ -16,7 +17,7 @@ module _ (kinds sizes masks : List ℕ) (low : ℕ) where
   -- The part by its last place.
   abbrev pub byLast : ℕ → ℕ → Re
   byLast f last =
-      partOf masks (getD kinds last 0)
+      partOf masks (partKind (getD kinds last 0))
       (part f kinds sizes masks low last)
       (part f kinds sizes masks low (middle sizes low last))
       (part f kinds sizes masks (middle sizes low last) last)
@@ -38,7 +39,7 @@ module _ (kinds sizes masks : List ℕ) (low : ℕ) where
   part-some P end h k (suc f) g = subst P (sym (part-at f end h)) (k f g)
 
 -- The kinds from 4 on.
-pub kind-leaf : (masks : List ℕ) (k : ℕ) (w x y : Re) → 3 < k → partOf masks k w x y ≡ leafOf masks (k - 4)
+pub kind-leaf : (masks : List ℕ) (k : ℕ) (w x y : Re) → 3 < k → partOf masks (partKind k) w x y ≡ leafOf masks (k - 4)
 kind-leaf masks zero w x y h = absurd (omega arith)
 kind-leaf masks (suc zero) w x y h = absurd (omega arith)
 kind-leaf masks (suc (suc zero)) w x y h = absurd (omega arith)

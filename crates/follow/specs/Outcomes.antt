@@ -2,12 +2,12 @@
 -- Assumes nothing.
 use mathlib.Core.Path.{_≡_}
 use Prim.Native.Nat.{ℕ, suc, _≤_, _<_}
-use mathlib.Core.Bool.{Bool, true, false, _||_}
+use mathlib.Core.Bool.{Bool, true, false}
 use mathlib.Core.List.{List}
 use lib.ListN.{length, take}
-use lib.Dec.{T, eqb}
+use lib.Dec.{T}
 use Rattle.theory.specs.Standing.{member, once}
-use Rattle.arrays.specs.Decoded.{hasBit}
+use Rattle.words.specs.Sets.{hasBit}
 use Rattle.follow.specs.declared.Outcomes.{Outcomes}
 
 -- The numbers of the list.
@@ -31,7 +31,3 @@ pub record Good (x : Outcomes) : Type 0 where
 pub record Lists (x : Outcomes) (v : List ℕ) : Type 0 where
   pub good : Good x
   pub are : listed x ≡ v
-
--- The set r is x with p.
-abbrev pub With : ℕ → ℕ → ℕ → Type 0
-With x p r = (k : ℕ) → hasBit r k ≡ (hasBit x k || eqb k p)

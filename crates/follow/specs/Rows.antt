@@ -8,7 +8,7 @@ use lib.ListN.{getD, take, drop}
 use Rattle.theory.specs.Pattern.{Re, count, Numbered}
 use Rattle.theory.specs.Standing.{member}
 use Rattle.theory.specs.Code.Closure.{closure, closureAfter}
-use Rattle.arrays.specs.Decoded.{hasBit}
+use Rattle.words.specs.Sets.{hasBit}
 use Rattle.follow.specs.declared.Tables.{Tables}
 
 -- Row k: the numbers of the outcomes in order, each once; 0 is the end, and one more than p is the wanted leaf p.

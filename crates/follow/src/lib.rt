@@ -7,9 +7,10 @@ ghost use Prim.Native.Nat.{_+_, _*_, _≤_, _<_};
 ghost use lib.ListN.{length};
 ghost use lib.Seq.{paste};
 ghost use Rattle.theory.specs.Standing.{member, gather};
-ghost use Rattle.arrays.specs.Decoded.{decode, hasBit, middle};
+ghost use Rattle.grammar.specs.Code.Tokens.{maxParts};
+ghost use Rattle.arrays.specs.Decoded.{decode, middle};
 ghost use Rattle.follow.specs.Rows.{Right};
-ghost use Rattle.follow.specs.Outcomes.{listed, Good, Lists, With};
+ghost use Rattle.follow.specs.Outcomes.{listed, Good, Lists};
 ghost use Rattle.follow.specs.Parts.{into, intoAfter, Collects, Lacks};
 ghost use Rattle.follow.specs.Stores.{places, IsRow, tablesOf, Long, Stored, Filled};
 use arrays::Pattern;
@@ -36,32 +37,6 @@ struct Outcomes {
     end: u8,
 }
 
-fn wide(x: u8) -> usize
-    ensures { λ r. ⌜ r ≡ x ⌝ }
-{
-    x as usize
-}
-
-fn widened(x: u16) -> usize
-    ensures { λ r. ⌜ r ≡ x ⌝ }
-{
-    x as usize
-}
-
-fn has(x: u64, p: usize) -> bool
-    requires { ⌜ p < 64 ⌝ }
-    ensures { λ r. ⌜ r ≡ hasBit x p ⌝ }
-{
-    x >> p & 1 == 1
-}
-
-fn with(x: u64, p: usize) -> u64
-    requires { ⌜ p < 64 ⌝ }
-    ensures { λ r. ⌜ With x p r ⌝ }
-{
-    x | 1 << p
-}
-
 fn none() -> Outcomes
     ensures { λ r. ⌜ Lists r [] ⌝ }
 {
@@ -80,7 +55,7 @@ fn holds(x: Outcomes, p: u8) -> bool
     if p == 0 {
         return x.end == 1;
     }
-    has(x.set, wide(p) - 1)
+    words::has(x.set, words::wide(p) - 1)
 }
 
 // The list with a number that it does not have.
@@ -96,7 +71,7 @@ fn append(x: Outcomes, p: u8) -> Outcomes
         r.end = 1;
         return r;
     }
-    r.set = with(x.set, wide(p) - 1);
+    r.set = words::with(x.set, words::wide(p) - 1);
     r
 }
 
@@ -133,14 +108,14 @@ fn ending() -> Outcomes
 }
 
 // Where the right one of two parts begins, which together stand from low to end.
-fn middle(sizes: &[u16; 2303], low: usize, end: usize) -> usize
-    requires { ⌜ end ≤ 2303 ⌝ }
+fn middle(sizes: &[u16; Pattern::MAX_PARTS], low: usize, end: usize) -> usize
+    requires { ⌜ end ≤ maxParts ⌝ }
     ensures { λ r. ⌜ r ≡ middle (now (sizes .entry)) low end ⌝ }
 {
     if end <= low {
         return low;
     }
-    let size = widened(sizes[end - 1]);
+    let size = words::wide_u16(sizes[end - 1]);
     if end - low <= size {
         return low;
     }
@@ -149,14 +124,14 @@ fn middle(sizes: &[u16; 2303], low: usize, end: usize) -> usize
 
 // What the part from low to end can begin with, its end replaced by rest, added to out.
 fn closure<'a>(
-    kinds: &'a [u8; 2303],
-    sizes: &'a [u16; 2303],
+    kinds: &'a [u8; Pattern::MAX_PARTS],
+    sizes: &'a [u16; Pattern::MAX_PARTS],
     low: usize,
     end: usize,
     rest: Outcomes,
     out: Outcomes,
 ) -> Outcomes
-    requires { ⌜ (end ≤ 2303) × Good rest × Good out ⌝ }
+    requires { ⌜ (end ≤ maxParts) × Good rest × Good out ⌝ }
     ensures { λ r. ⌜ Collects into (now (kinds .entry)) (now (sizes .entry)) low end rest out r ⌝ }
 {
     if end <= low {
@@ -164,23 +139,24 @@ fn closure<'a>(
     }
     let last = end - 1;
     let kind = kinds[last];
-    if kind == 0 {
+    if kind == Pattern::EMPTY {
         return join(out, rest);
     }
-    if 67 < kind {
+    if Pattern::LAST_LEAF < kind {
         return join(out, rest);
     }
-    if 3 < kind {
-        return add(out, kind - 3);
+    // the kinds of the leaves come after the star's, so this is the leaf's number and one
+    if Pattern::STAR < kind {
+        return add(out, kind - Pattern::STAR);
     }
     let nothing = none();
-    if kind == 3 {
+    if kind == Pattern::STAR {
         // the end of an empty turn is dropped
         let turns = closure(kinds, sizes, low, last, nothing, out);
         return join(turns, rest);
     }
     let m = middle(sizes, low, last);
-    if kind == 1 {
+    if kind == Pattern::SEQUENCE {
         let right = closure(kinds, sizes, m, last, rest, nothing);
         return closure(kinds, sizes, low, m, right, out);
     }
@@ -189,8 +165,8 @@ fn closure<'a>(
 }
 
 // Whether no place from low to end has that kind: then a part there has no such leaf.
-fn lacks(kinds: &[u8; 2303], low: usize, end: usize, kind: u8) -> bool
-    requires { ⌜ end ≤ 2303 ⌝ }
+fn lacks(kinds: &[u8; Pattern::MAX_PARTS], low: usize, end: usize, kind: u8) -> bool
+    requires { ⌜ end ≤ maxParts ⌝ }
     ensures { λ r. ⌜ Lacks (now (kinds .entry)) low end kind r ⌝ }
 {
     let mut i = low;
@@ -205,39 +181,39 @@ fn lacks(kinds: &[u8; 2303], low: usize, end: usize, kind: u8) -> bool
 
 // What can follow the leaf p of the part from low to end, the part's end replaced by rest, added to out.
 fn after<'a>(
-    kinds: &'a [u8; 2303],
-    sizes: &'a [u16; 2303],
+    kinds: &'a [u8; Pattern::MAX_PARTS],
+    sizes: &'a [u16; Pattern::MAX_PARTS],
     low: usize,
     end: usize,
     p: u8,
     rest: Outcomes,
     out: Outcomes,
 ) -> Outcomes
-    requires { ⌜ (end ≤ 2303) × (p < 64) × Good rest × Good out ⌝ }
+    requires { ⌜ (end ≤ maxParts) × (p < 64) × Good rest × Good out ⌝ }
     ensures { λ r. ⌜ Collects (intoAfter p) (now (kinds .entry)) (now (sizes .entry)) low end rest out r ⌝ }
 {
-    if lacks(kinds, low, end, 4 + p) {
+    if lacks(kinds, low, end, Pattern::FIRST_LEAF + p) {
         return out;
     }
     let last = end - 1;
     let kind = kinds[last];
-    if kind == 4 + p {
+    if kind == Pattern::FIRST_LEAF + p {
         return join(out, rest);
     }
-    if 3 < kind {
+    if Pattern::STAR < kind {
         return out;
     }
-    if kind == 0 {
+    if kind == Pattern::EMPTY {
         return out;
     }
-    if kind == 3 {
+    if kind == Pattern::STAR {
         let again = closure(kinds, sizes, low, end, rest, none());
         return after(kinds, sizes, low, last, p, again, out);
     }
     let m = middle(sizes, low, last);
-    if kind == 1 {
+    if kind == Pattern::SEQUENCE {
         // the right part's list is made only for a leaf of the left one
-        if lacks(kinds, low, m, 4 + p) {
+        if lacks(kinds, low, m, Pattern::FIRST_LEAF + p) {
             return after(kinds, sizes, m, last, p, rest, out);
         }
         let right = closure(kinds, sizes, m, last, rest, none());
@@ -249,16 +225,24 @@ fn after<'a>(
 }
 
 // How many places there are: none where the array has fewer.
-fn places(kinds: &[u8; 2303], len: usize) -> usize
-    ensures { λ r. ⌜ (r ≤ 2303) × (r ≡ places (now (kinds .entry)) len) ⌝ }
+fn places(kinds: &[u8; Pattern::MAX_PARTS], len: usize) -> usize
+    ensures { λ r. ⌜ (r ≤ maxParts) × (r ≡ places (now (kinds .entry)) len) ⌝ }
 {
-    let all = &kinds[..];
-    if len <= all.len() { len } else { 0 }
+    if len <= words::length_of(kinds) {
+        len
+    } else {
+        0
+    }
 }
 
 // Row k: the start's, or that of the leaf k - 1.
-fn row_of<'a>(kinds: &'a [u8; 2303], sizes: &'a [u16; 2303], end: usize, k: u8) -> Outcomes
-    requires { ⌜ (end ≤ 2303) × (k ≤ 64) ⌝ }
+fn row_of<'a>(
+    kinds: &'a [u8; Pattern::MAX_PARTS],
+    sizes: &'a [u16; Pattern::MAX_PARTS],
+    end: usize,
+    k: u8,
+) -> Outcomes
+    requires { ⌜ (end ≤ maxParts) × (k ≤ 64) ⌝ }
     ensures { λ r. ⌜ IsRow (now (kinds .entry)) (now (sizes .entry)) end k r ⌝ }
 {
     if k == 0 {
@@ -306,21 +290,21 @@ fn store(
 
 // Each row in turn.
 fn fill<'a>(
-    kinds: &'a [u8; 2303],
-    sizes: &'a [u16; 2303],
+    kinds: &'a [u8; Pattern::MAX_PARTS],
+    sizes: &'a [u16; Pattern::MAX_PARTS],
     end: usize,
     rows: &mut [u8; 4225],
     lens: &mut [u8; 65],
     sets: &mut [u64; 65],
     ends: &mut [u8; 65],
 )
-    requires { ⌜ (end ≤ 2303) × Long (tablesOf (now rows) (now lens) (now sets) (now ends)) ⌝ }
+    requires { ⌜ (end ≤ maxParts) × Long (tablesOf (now rows) (now lens) (now sets) (now ends)) ⌝ }
     ensures { λ _. ⌜ Filled (now (kinds .entry)) (now (sizes .entry)) end 65 (tablesOf (now (rows .exit)) (now (lens .exit)) (now (sets .exit)) (now (ends .exit))) ⌝ }
 {
     let mut k = 0u8;
     while k < 65 {
         let x = row_of(kinds, sizes, end, k);
-        store(x, wide(k), rows, lens, sets, ends);
+        store(x, words::wide(k), rows, lens, sets, ends);
         k += 1;
     }
 }

@@ -9,7 +9,7 @@ use lib.ListN.{length}
 use lib.Dec.{T, eqb, leb, eqb→eq}
 use Rattle.grammar.specs.Grammar.{Byte, plain, escaped, Name, alpha, digit, alnum, upper, lower, xdigit, space, punct, Item, single, range, named, Digits, one, two, Repeat, once, many, more, maybe, exactly, atLeast, between, Atom, class, Inside, usual, backslash, closing, opening, caret, dash, inside, marked, byteText, namedText, itemText, itemsText, caretText, classText, digitsText, repeatText, WfInner, WfItem, WfItems, WfDigits, WfRepeat, value, isDigit, counts}
 use Rattle.grammar.specs.Before.{isOnce}
-use Rattle.grammar.specs.Code.Reader.{Found, found, missing, andThen, orElse, only, strip, readEscaped, innerBy, readInner, readNamed, rangeBy, readRange, itemBy, readItem, isClosing, readItems, readListed, isCaret, readClass, secondDigit, readDigits, readEnd, readSecond, readComma, readCount}
+use Rattle.grammar.specs.Code.Reader.{Parsed, found, missing, andThen, orElse, only, strip, readEscaped, innerBy, readInner, readNamed, rangeBy, readRange, itemBy, readItem, isClosing, readItems, readListed, isCaret, readClass, secondDigit, readDigits, readEnd, readSecond, readComma, readCount}
 use Rattle.grammar.specs.Sets.{names}
 use Rattle.grammar.proofs.Texts.{InsideOk, inside-ok, len-items}
 
@@ -20,24 +20,24 @@ pub same : (b c : ℕ) → eqb b c ≡ true → b ≡ c
 same b c e = eqb→eq b c (true-T (eqb b c) e)
 
 -- What is found is P.
-abbrev pub Sound : {A : Type 0} → (A → List ℕ → Type 0) → Found A → Type 0
+abbrev pub Sound : {A : Type 0} → (A → List ℕ → Type 0) → Parsed A → Type 0
 Sound P (found a r) = P a r
 Sound P missing = Unit {0}
 
 module _ {A : Type 0} (P : A → List ℕ → Type 0) where
-  sound-only : (c : Bool) (x : Found A) → (c ≡ true → Sound P x) → Sound P (only c x)
+  sound-only : (c : Bool) (x : Parsed A) → (c ≡ true → Sound P x) → Sound P (only c x)
   sound-only true x h = h refl
   sound-only false x h = tt
 
-  sound-else : (x y : Found A) → Sound P x → Sound P y → Sound P (orElse x y)
+  sound-else : (x y : Parsed A) → Sound P x → Sound P y → Sound P (orElse x y)
   sound-else (found a r) y h k = h
   sound-else missing y h k = k
 
-  sound-then : {B : Type 0} (Q : B → List ℕ → Type 0) (m : Found A) (f : A → List ℕ → Found B) → Sound P m → ((a : A) (r : List ℕ) → P a r → Sound Q (f a r)) → Sound Q (andThen m f)
+  sound-then : {B : Type 0} (Q : B → List ℕ → Type 0) (m : Parsed A) (f : A → List ℕ → Parsed B) → Sound P m → ((a : A) (r : List ℕ) → P a r → Sound Q (f a r)) → Sound Q (andThen m f)
   sound-then Q (found a r) f h k = k a r h
   sound-then Q missing f h k = tt
 
-  sound-map : (Q : A → List ℕ → Type 0) (m : Found A) → Sound P m → ((a : A) (r : List ℕ) → P a r → Q a r) → Sound Q m
+  sound-map : (Q : A → List ℕ → Type 0) (m : Parsed A) → Sound P m → ((a : A) (r : List ℕ) → P a r → Q a r) → Sound Q m
   sound-map Q (found a r) h k = k a r h
   sound-map Q missing h k = tt
 

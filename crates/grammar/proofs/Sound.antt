@@ -10,7 +10,7 @@ use lib.Dec.{T, leb, ltb, leb→le, nleb→lt, ltb→lt, nltb→le}
 use Rattle.grammar.specs.Grammar.{escaped, Item, Repeat, once, many, more, maybe, exactly, atLeast, between, Alternation, last, or, nothing, Atom, byte, class, Kind, ordinary, backslash, bar, opener, closer, bracket, brace, period, stray, sign, kind, special, classText, itemText, itemsText, caretText, repeatText, alternation, atom, WfAlternation, WfAtom, WfRepeat}
 use Rattle.grammar.specs.Limits.{depth, depthAtom, heaviest}
 use Rattle.grammar.specs.Before.{Before, start, barred, opened, after, text, opens, isOnce, ready, WfBefore}
-use Rattle.grammar.specs.Code.Reader.{Found, found, missing, readClass, readCount, Gathered, whole, within, front, gather, Move, on, stop, put, escape, addAtom, addCount, addGroup, step, place, ended, moved, loop, read}
+use Rattle.grammar.specs.Code.Reader.{Parsed, found, missing, readClass, readCount, Gathered, whole, within, front, gather, Move, on, stop, put, escape, addAtom, addCount, addGroup, step, place, ended, moved, loop, read}
 use Rattle.grammar.specs.Refusals.{accepted, refused, ClassAt, CountAt, Wrong, unopened, bare, unreadySign, unreadyCount, escapeLast, escapeOrdinary, noClass, noCount, tooDeep, leftOpen, tooLong, wrong, tooHeavy, Right}
 use Rattle.grammar.proofs.Texts.{KindOk, kind-ok, len-item, len-items, len-repeat}
 use Rattle.grammar.proofs.Pieces.{Sound, ClassIs, class-sound, class-complete, CountIs, count-sound, count-complete}
@@ -114,7 +114,7 @@ no-class s e (c, x, l, r, v, u, q) =
 class-ok : (o : Before) (s : List ℕ) → WfBefore o → StepOk o 91 s (addAtom o (readClass s))
 class-ok o s w = go (readClass s) refl (class-sound s)
   where
-    go : (m : Found Atom) → readClass s ≡ m → Sound (ClassIs (91 ∷ s)) m → StepOk o 91 s (addAtom o m)
+    go : (m : Parsed Atom) → readClass s ≡ m → Sound (ClassIs (91 ∷ s)) m → StepOk o 91 s (addAtom o m)
     go (found a r) e (c, x, l, same, v, u, q) = rw same ((w, (v, u), tt, omega (arith, opens-max o w)), ap (text o) q, omega (arith, len-class c x l r, ap length q))
     go missing e h = noClass s (no-class s e)
 
@@ -126,7 +126,7 @@ no-count s e (x, r, w, h, q) =
 count-ok : (o : Before) (s : List ℕ) → WfBefore o → ready o ≡ true → StepOk o 123 s (addCount o (readCount s))
 count-ok o s w d = go (readCount s) refl (count-sound s)
   where
-    go : (m : Found Repeat) → readCount s ≡ m → Sound (CountIs (123 ∷ s)) m → StepOk o 123 s (addCount o m)
+    go : (m : Parsed Repeat) → readCount s ≡ m → Sound (CountIs (123 ∷ s)) m → StepOk o 123 s (addCount o m)
     go (found x r) e k = let h = put-ok o x r d w (k .0) in (h .0, h .1 ∙ ap (text o) (k .2), omega (arith, len-repeat x r (k .1), ap length (k .2)))
     go missing e h = noCount s d (no-count s e)
 

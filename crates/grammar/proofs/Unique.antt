@@ -10,7 +10,7 @@ use lib.Dec.{leb, ltb, le→leb, lt→ltb, leb→le}
 use Rattle.grammar.specs.Grammar.{plain, escaped, Repeat, once, many, more, maybe, exactly, atLeast, between, Alternation, last, or, Sequence, nothing, part, Atom, byte, dot, class, group, Kind, ordinary, backslash, bar, opener, closer, bracket, brace, period, stray, sign, kind, special, digitsText, repeatText, alternation, sequence, atom, WfAlternation, WfSequence, WfAtom, WfRepeat}
 use Rattle.grammar.specs.Limits.{depth, depthSequence, depthAtom, heaviest, Reads}
 use Rattle.grammar.specs.Before.{Before, start, barred, opened, after, text, opens, ready, WfBefore}
-use Rattle.grammar.specs.Code.Reader.{Found, found, missing, readClass, readCount, Gathered, whole, within, front, gather, Move, on, stop, put, addAtom, addCount, addGroup, step, place, ended, moved, loop, read}
+use Rattle.grammar.specs.Code.Reader.{Parsed, found, missing, readClass, readCount, Gathered, whole, within, front, gather, Move, on, stop, put, addAtom, addCount, addGroup, step, place, ended, moved, loop, read}
 use Rattle.grammar.specs.Refusals.{Answer, accepted, refused, ClassAt, CountAt, Wrong, unopened, bare, unreadySign, unreadyCount, escapeLast, escapeOrdinary, noClass, noCount, tooDeep, leftOpen, Fault, tooLong, wrong, tooHeavy, Right}
 use Rattle.grammar.proofs.Texts.{len-repeat}
 use Rattle.grammar.proofs.Pieces.{Sound, ClassIs, class-sound, class-complete, CountIs, count-sound, count-complete}
@@ -39,12 +39,12 @@ step-short closer o b s = go (gather o (last nothing))
     go (within o′ t) = omega arith
 step-short bracket o b s = go (readClass s) (class-sound s)
   where
-    go : (m : Found Atom) → Sound (ClassIs (91 ∷ s)) m → Short s (addAtom o m)
+    go : (m : Parsed Atom) → Sound (ClassIs (91 ∷ s)) m → Short s (addAtom o m)
     go (found a r) (c, x, l, same, v, u, q) = omega (arith, len-class c x l r, ap length q)
     go missing h = tt
 step-short brace o b s = short-cond (ready o) s (addCount o (readCount s)) 2 (go (readCount s) (count-sound s))
   where
-    go : (m : Found Repeat) → Sound (CountIs (123 ∷ s)) m → Short s (addCount o m)
+    go : (m : Parsed Repeat) → Sound (CountIs (123 ∷ s)) m → Short s (addCount o m)
     go (found x r) k = omega (arith, len-repeat x r (k .1), ap length (k .2))
     go missing h = tt
 step-short period o b s = omega arith
@@ -239,14 +239,14 @@ gathered o w = gather-ok o (last nothing) w tt (omega (arith, opens-max o w))
 class-missing : (s : List ℕ) → (ClassAt (91 ∷ s) → ⊥) → readClass s ≡ missing
 class-missing s h = go (readClass s) (class-sound s)
   where
-    go : (m : Found Atom) → Sound (ClassIs (91 ∷ s)) m → m ≡ missing
+    go : (m : Parsed Atom) → Sound (ClassIs (91 ∷ s)) m → m ≡ missing
     go (found a r) (c, x, l, same, v, u, q) = absurd (h (c, x, l, r, v, u, q))
     go missing k = refl
 
 count-missing : (s : List ℕ) → (CountAt (123 ∷ s) → ⊥) → readCount s ≡ missing
 count-missing s h = go (readCount s) (count-sound s)
   where
-    go : (m : Found Repeat) → Sound (CountIs (123 ∷ s)) m → m ≡ missing
+    go : (m : Parsed Repeat) → Sound (CountIs (123 ∷ s)) m → m ≡ missing
     go (found x r) k = absurd (h (x, r, k .0, k .1, k .2))
     go missing k = refl
 

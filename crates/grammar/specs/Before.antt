@@ -4,7 +4,7 @@ use Prim.Native.Nat.{ℕ, suc, _+_, _≤_, _<_}
 use mathlib.Core.Bool.{Bool, true, false}
 use mathlib.Core.List.{List, _∷_}
 use Rattle.grammar.specs.Grammar.{Repeat, once, many, more, maybe, exactly, atLeast, between, repeatText, Atom, atom, WfAtom, WfRepeat}
-use Rattle.grammar.specs.Limits.{depthAtom}
+use Rattle.grammar.specs.Limits.{maxDepth, depthAtom}
 
 pub data Before : Type 0 where
   start : Before
@@ -46,5 +46,5 @@ ready (after o a r) = isOnce r
 abbrev pub WfBefore : Before → Type 0
 WfBefore start = Unit {0}
 WfBefore (barred o) = WfBefore o
-WfBefore (opened o) = WfBefore o × (opens o < 16)
-WfBefore (after o a r) = WfBefore o × WfAtom a × WfRepeat r × (opens o + depthAtom a ≤ 16)
+WfBefore (opened o) = WfBefore o × (opens o < maxDepth)
+WfBefore (after o a r) = WfBefore o × WfAtom a × WfRepeat r × (opens o + depthAtom a ≤ maxDepth)

@@ -6,6 +6,16 @@ use lib.ListN.{length}
 use mathlib.Core.Path.{_≡_}
 use Rattle.grammar.specs.Grammar.{Repeat, once, many, more, maybe, exactly, atLeast, between, digitsValue, Alternation, last, or, Sequence, nothing, part, Atom, byte, dot, class, group, alternation, WfAlternation}
 
+-- The limits: bytes, brackets open together, weight.
+abbrev pub maxBytes : ℕ
+maxBytes = 255
+
+abbrev pub maxDepth : ℕ
+maxDepth = 16
+
+abbrev pub maxWeight : ℕ
+maxWeight = 64
+
 -- "Depth counts brackets open together."
 abbrev mutual
   pub depth : Alternation → ℕ
@@ -74,6 +84,6 @@ unfoldable mutual
 pub record Reads (p : List ℕ) (t : Alternation) : Type 0 where
   pub text : alternation t [] ≡ p
   pub formed : WfAlternation t
-  pub short : length p ≤ 255
-  pub shallow : depth t ≤ 16
-  pub light : heaviest t ≤ 64
+  pub short : length p ≤ maxBytes
+  pub shallow : depth t ≤ maxDepth
+  pub light : heaviest t ≤ maxWeight

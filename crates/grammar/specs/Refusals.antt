@@ -7,7 +7,7 @@ use mathlib.Core.Bool.{Bool, true, false}
 use mathlib.Core.List.{List, [], _∷_}
 use lib.ListN.{length}
 use Rattle.grammar.specs.Grammar.{Item, Repeat, Alternation, ordinary, stray, sign, kind, classText, repeatText, WfItem, WfItems, WfRepeat, alternation, WfAlternation}
-use Rattle.grammar.specs.Limits.{depth, heaviest, Reads}
+use Rattle.grammar.specs.Limits.{maxBytes, maxDepth, maxWeight, depth, heaviest, Reads}
 use Rattle.grammar.specs.Before.{Before, text, opens, isOnce, ready, WfBefore}
 
 -- A class begins here.
@@ -28,17 +28,17 @@ pub data Wrong (o : Before) : List ℕ → ℕ → Type 0 where
   escapeOrdinary : (b : ℕ) (s : List ℕ) → kind b ≡ ordinary → Wrong o (92 ∷ b ∷ s) 3  -- .. or before a byte that is not special
   noClass : (s : List ℕ) → (ClassAt (91 ∷ s) → ⊥) → Wrong o (91 ∷ s) 4  -- any fault in a class
   noCount : (s : List ℕ) → ready o ≡ true → (CountAt (123 ∷ s) → ⊥) → Wrong o (123 ∷ s) 5  -- a `{` not starting a valid count
-  tooDeep : (s : List ℕ) → opens o ≡ 16 → Wrong o (40 ∷ s) 7  -- a `(` that would make depth 17
+  tooDeep : (s : List ℕ) → opens o ≡ maxDepth → Wrong o (40 ∷ s) 7  -- a `(` that would make depth 17
   leftOpen : 0 < opens o → Wrong o [] 6  -- `(` left open
 
 -- The pattern p is refused with the number n at the place q. "6 before 8": weight is looked at where no bracket is left open.
 pub data Fault (p : List ℕ) (n q : ℕ) : Type 0 where
   -- "1: above 255 bytes; place 255; nothing else is looked at."
-  tooLong : 255 < length p → n ≡ 1 → q ≡ 255 → Fault p n q
+  tooLong : maxBytes < length p → n ≡ 1 → q ≡ maxBytes → Fault p n q
   -- "2" to "7"
-  wrong : length p ≤ 255 → (o : Before) (s : List ℕ) → WfBefore o → text o s ≡ p → Wrong o s n → q ≡ length (text o []) → Fault p n q
+  wrong : length p ≤ maxBytes → (o : Before) (s : List ℕ) → WfBefore o → text o s ≡ p → Wrong o s n → q ≡ length (text o []) → Fault p n q
   -- "8: weight above 64. Place: the pattern's length."
-  tooHeavy : length p ≤ 255 → (t : Alternation) → WfAlternation t → depth t ≤ 16 → alternation t [] ≡ p → 64 < heaviest t → n ≡ 8 → q ≡ length p → Fault p n q
+  tooHeavy : length p ≤ maxBytes → (t : Alternation) → WfAlternation t → depth t ≤ maxDepth → alternation t [] ≡ p → maxWeight < heaviest t → n ≡ 8 → q ≡ length p → Fault p n q
 
 -- The reader's answer: accepted with the pattern's tree, or refused with number and place.
 pub data Answer : Type 0 where

@@ -12,7 +12,7 @@ use lib.ListN.{getD}
 use lib.Dec.{eqb}
 use lib.Pow.{pow-mono, shr-shr}
 use Rattle.theory.specs.Pattern.{Re, count, has, SameGroup}
-use Rattle.arrays.specs.Decoded.{hasBit}
+use Rattle.words.specs.Sets.{hasBit}
 use Rattle.groups.specs.declared.Groups.{Groups}
 use Rattle.groups.specs.Grouped.{Grouped, groupOf}
 

@@ -28,8 +28,8 @@ fn value(b: u8) -> u8
     ensures { λ r. ⌜ r < 16 ⌝ }
 {
     match b {
-        48..=57 => b - 48,
-        97..=102 => b - 87,
+        b'0'..=b'9' => b - b'0',
+        b'a'..=b'f' => b - b'a' + 10,
         _ => 0,
     }
 }
@@ -57,16 +57,10 @@ fn number(s: &[u8], from: usize, to: usize, most: usize) -> usize
     let mut n = 0;
     let mut i = from;
     while i < digits.len() {
-        n = least(10 * n + value(digits[i]) as usize, most);
+        n = words::least(10 * n + value(digits[i]) as usize, most);
         i += 1;
     }
     n
-}
-
-fn least(a: usize, b: usize) -> usize
-    ensures { λ r. ⌜ r ≤ b ⌝ }
-{
-    if a < b { a } else { b }
 }
 
 // Two hex digits.

@@ -11,7 +11,7 @@ use lib.Seq.{take-all}
 use Rattle.lines.specs.declared.Input.{Input}
 use lib.Dec.{ltb}
 use borrow.Author.Tests.{ltb-true, ltb-false}
-use Rattle.lines.specs.Lines.{rest, upTo, ended, Found, Next}
+use Rattle.lines.specs.Lines.{rest, upTo, ended, LineFound, Next}
 use Rattle.lines.specs.Steps.{Kept, ReadOn, Stepped}
 use Rattle.lines.proofs.Laws.{take-cut, at-newline, at-byte, at-end}
 
@@ -99,7 +99,7 @@ ended-within chunk i e = go (ltb (i .at) (i .end)) refl
 
 -- A step from a fresh line finds one that ends in the chunk.
 found-first : (chunk line : List ℕ) (i : Input) (chunk′ line′ : List ℕ) (r : Input) → i .n ≡ 0 → ended (rest chunk (i .at) (i .end)) ≡ true → Stepped chunk line i chunk′ line′ r
-    → Found chunk (i .at) (i .end) chunk′ line′ r
+    → LineFound chunk (i .at) (i .end) chunk′ line′ r
 found-first chunk line i chunk′ line′ r none e s =
     let h = ended-within chunk i e in
     let g = s .read h in
@@ -115,7 +115,7 @@ found-first chunk line i chunk′ line′ r none e s =
 -- A line that ends in the chunk: no step is taken yet, or it is found.
 pub data Turn (chunk : List ℕ) (i : Input) (chunk′ line : List ℕ) (r : Input) (turns : ℕ) : Type 0 where
   first : chunk′ ≡ chunk → r ≡ i → 0 < turns → Turn chunk i chunk′ line r turns
-  last : Found chunk (i .at) (i .end) chunk′ line r → Turn chunk i chunk′ line r turns
+  last : LineFound chunk (i .at) (i .end) chunk′ line r → Turn chunk i chunk′ line r turns
 
 pub record Reached (chunk : List ℕ) (i : Input) (chunk′ line : List ℕ) (r : Input) (turns : ℕ) : Type 0 where
   pub most : r .n ≤ 1025
@@ -131,7 +131,7 @@ module _ (chunk : List ℕ) (i : Input) (none : i .n ≡ 0) (begins : i .whole �
   reached-more chunk′ line r turns h w chunk″ line″ r″ turns″ s =
       record { most = s .most; turn = λ e. last (go e (h .turn e)) }
     where
-      go : ended (rest chunk (i .at) (i .end)) ≡ true → Turn chunk i chunk′ line r turns → Found chunk (i .at) (i .end) chunk″ line″ r″
+      go : ended (rest chunk (i .at) (i .end)) ≡ true → Turn chunk i chunk′ line r turns → LineFound chunk (i .at) (i .end) chunk″ line″ r″
       go e (first p q z) = found-first chunk line i chunk″ line″ r″ none e (rw q at (rw p at s))
       go e (last f) = let y : _≡_ {A = ℕ} 0 1 = cc (f .whole, w) in absurd (omega arith)
 
@@ -140,7 +140,7 @@ module _ (chunk : List ℕ) (i : Input) (none : i .n ≡ 0) (begins : i .whole �
       → Next chunk (i .at) (i .end) chunk′ line r
   reached-last chunk′ line r turns h w = record { most = h .most; found = λ e. go w (h .turn e) }
     where
-      go : (turns ≡ 0) ⊎ (r .whole ≡ true) → Turn chunk i chunk′ line r turns → Found chunk (i .at) (i .end) chunk′ line r
+      go : (turns ≡ 0) ⊎ (r .whole ≡ true) → Turn chunk i chunk′ line r turns → LineFound chunk (i .at) (i .end) chunk′ line r
       go w (last f) = f
       go (inl t) (first p q z) = absurd (omega arith)
       go (inr t) (first p q z) = let y : _≡_ {A = ℕ} 0 1 = cc (ap (λ x. x .whole) q, begins, t) in absurd (omega arith)

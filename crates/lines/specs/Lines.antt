@@ -24,7 +24,7 @@ abbrev pub rest : List ℕ → ℕ → ℕ → List ℕ
 rest chunk i e = drop i (take e chunk)
 
 -- The line at the head of those bytes: its first 1,025 bytes are kept, and what follows its newline is still to be read.
-pub record Found (chunk : List ℕ) (i e : ℕ) (chunk′ line : List ℕ) (r : Input) : Type 0 where
+pub record LineFound (chunk : List ℕ) (i e : ℕ) (chunk′ line : List ℕ) (r : Input) : Type 0 where
   pub bytes : take (r .n) line ≡ take 1025 (upTo (rest chunk i e))
   pub at : r .at ≡ i + length (upTo (rest chunk i e)) + 1
   pub end : r .end ≡ e
@@ -35,7 +35,7 @@ pub record Found (chunk : List ℕ) (i e : ℕ) (chunk′ line : List ℕ) (r : 
 -- The next line. Of a line that goes on in a further chunk nothing is said but that it fits: no contract can say what is read.
 pub record Next (chunk : List ℕ) (i e : ℕ) (chunk′ line : List ℕ) (r : Input) : Type 0 where
   pub most : r .n ≤ 1025
-  pub found : ended (rest chunk i e) ≡ true → Found chunk i e chunk′ line r
+  pub found : ended (rest chunk i e) ≡ true → LineFound chunk i e chunk′ line r
 
 -- There is room for a line, if the buffer can hold it; and what waited still waits, if there was room before.
 pub record Room (used longest : ℕ) (r : Output) : Type 0 where

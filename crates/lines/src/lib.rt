@@ -58,20 +58,12 @@ pub fn fresh(at: usize, end: usize) -> Input
     }
 }
 
-// How many bytes of a line can be kept.
-fn most(line: &[u8; KEPT]) -> usize
-    ensures { λ r. ⌜ (r ≡ 1025) × (r ≡ length (now (line .entry))) ⌝ }
-{
-    let all = &line[..];
-    all.len()
-}
-
 // One byte more of a line, unless enough are kept.
 fn keep(line: &mut [u8; KEPT], n: usize, b: u8) -> usize
     requires { ⌜ n ≤ 1025 ⌝ }
     ensures { λ r. ⌜ Kept (now (line .entry)) n b (now (line .exit)) r ⌝ }
 {
-    if n < most(line) {
+    if n < words::length_of(line) {
         line[n] = b;
         return n + 1;
     }

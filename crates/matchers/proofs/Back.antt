@@ -23,14 +23,14 @@ use Rattle.theory.proofs.Members.{gather-member}
 use Rattle.theory.proofs.Extend.{has-beyond}
 use Rattle.theory.proofs.Closure.{closure-right, closureAfter-right, member-zero, member-wants}
 use Rattle.theory.proofs.Head.{alive-leaf}
-use Rattle.arrays.specs.Decoded.{hasBit}
+use Rattle.words.specs.Sets.{hasBit}
 use Rattle.follow.specs.declared.Tables.{Tables}
 use Rattle.follow.specs.Rows.{row, Summed}
 use Rattle.standing.specs.Stands.{arrays, Lent}
 use Rattle.matchers.specs.declared.Place.{Place}
 use Rattle.matchers.specs.declared.Place.the-variants.{At}
 use Rattle.matchers.specs.Passes.{placeOf, wantsOf, leadsTo, Covers, Ending, leadsOn, Leading, LeadingIf, Back, Before, Kept, Leftmost, LastStart}
-use Rattle.arrays.proofs.Bits.{no-bit}
+use Rattle.words.proofs.Bits.{no-bit}
 use Rattle.matchers.proofs.Bits.{meets-bits, back-known}
 
 pub below-at : (w : List ℕ) → Below 256 w → (i : ℕ) → i < length w → getD w i 0 < 256

@@ -13,17 +13,12 @@ use lib.Bits.{bitOr, bitAnd, and-zero-r}
 use borrow.Author.Tests.{eqb-true, eq-eqb, ne-eqb}
 use Rattle.theory.specs.Standing.{member}
 use Rattle.theory.specs.Code.Passes.{meets}
-use Rattle.theory.proofs.Tests.{T-true, true-T, not-true, or-left, or-right, or-false}
+use Rattle.theory.proofs.Tests.{T-true, true-T, not-true, or-left, or-right, or-false, and-true, and-false}
 use Rattle.theory.specs.Code.Members.{any}
 use Rattle.theory.proofs.Members.{any-found, any-of}
-use Rattle.arrays.specs.Decoded.{hasBit}
-use Rattle.arrays.proofs.Bits.{or-union, no-bit, shift-bit, and-true, and-false}
-use Rattle.standing.specs.Sets.{Parted}
-use Rattle.standing.proofs.Leaves.{and-bit, half-bit}
-use Rattle.matchers.specs.Passes.{wantsOf, Covers, leadsOn, Leading, Back, Added}
-
-pub added : (x p : ℕ) → p < 64 → Added true x p (bitOr x (1 * 2 ^ p % 18446744073709551616))
-added x p h k = or-union x (1 * 2 ^ p % 18446744073709551616) k ∙ ap (λ c. hasBit x k || c) (shift-bit p k h)
+use Rattle.words.specs.Sets.{hasBit, withLeafIf, Parted}
+use Rattle.words.proofs.Bits.{or-bit, no-bit, with-if-bit, and-bit, half-bit}
+use Rattle.matchers.specs.Passes.{wantsOf, Covers, leadsOn, Leading, Back}
 
 zero-of-bits : (k z : ℕ) → z < k → ((q : ℕ) → hasBit z q ≡ false) → z ≡ 0
 zero-of-bits zero z l h = absurd (omega arith)
@@ -75,7 +70,7 @@ pub covers-none : (sets : List ℕ) → Covers 0 sets 0
 covers-none sets k q h t = absurd (omega arith)
 
 pub covers-more : (n : ℕ) (sets : List ℕ) (x : ℕ) → Covers n sets x → Covers (n + 1) sets (bitOr x (getD sets n 0))
-covers-more n sets x h k q l t = rw (or-union x (getD sets n 0) q) (go (decLt k n))
+covers-more n sets x h k q l t = rw (or-bit x (getD sets n 0) q) (go (decLt k n))
   where
     go : Dec (k < n) → T (hasBit x q || hasBit (getD sets n 0) q)
     go (yes m) = or-left (hasBit x q) (hasBit (getD sets n 0) q) (h k q m t)
@@ -85,9 +80,9 @@ covers-more n sets x h k q l t = rw (or-union x (getD sets n 0) q) (go (decLt k 
 abbrev pub Left : (ℕ → Bool) → (ℕ → Bool) → ℕ → ℕ → Type 0
 Left pass whole x rest = (k : ℕ) → (hasBit x k || (hasBit rest k && pass k)) ≡ whole k
 
-pub left-turn : (pass whole : ℕ → Bool) (x y z p rest : ℕ) → Left pass whole x z → Parted z p rest → Added (pass p) x p y → Left pass whole y rest
+pub left-turn : (pass whole : ℕ → Bool) (x y z p rest : ℕ) → Left pass whole x z → Parted z p rest → y ≡ withLeafIf (pass p) x p → Left pass whole y rest
 left-turn pass whole x y z p rest h s a k =
-    rw (a k, s .others k) (go (eqb k p) refl ∙ h k)
+    rw (a, with-if-bit (pass p) x p k (s .below), s .others k) (go (eqb k p) refl ∙ h k)
   where
     go : (c : Bool) → eqb k p ≡ c → ((hasBit x k || (pass p && c)) || ((hasBit z k && not c) && pass k)) ≡ (hasBit x k || (hasBit z k && pass k))
     go true e = let same : k ≡ p = eqb-true k p e in rw (same, s .there, and-true (pass p)) (or-false (hasBit x p || pass p))

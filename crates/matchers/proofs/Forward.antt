@@ -18,13 +18,13 @@ use Rattle.theory.specs.Code.Next.{next}
 use Rattle.theory.specs.Code.Passes.{forward, farthest}
 use Rattle.theory.proofs.Step.{step}
 use Rattle.theory.proofs.Passes.{greedy-stop, posix-stop}
-use Rattle.arrays.specs.Decoded.{hasBit}
+use Rattle.words.specs.Sets.{hasBit}
 use Rattle.standing.specs.declared.Standing.{Standing}
 use Rattle.standing.specs.Stands.{means, Arrays, Lent, Fine, Stands, First, Carried}
 use Rattle.matchers.specs.declared.Place.{Place}
 use Rattle.matchers.specs.declared.Ends.{Ends}
 use Rattle.matchers.specs.Passes.{placeOf, Passed, Ended}
-use Rattle.arrays.proofs.Bits.{no-bit}
+use Rattle.words.proofs.Bits.{no-bit}
 use Rattle.matchers.proofs.Runs.{same-means, next-alike}
 
 module _ (r : Re) (f : Theory.Standing → Bool) (w : List ℕ) where

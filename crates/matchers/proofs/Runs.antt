@@ -16,14 +16,13 @@ use Rattle.theory.specs.Standing as Theory
 use Rattle.theory.specs.Lines.{Below}
 use Rattle.theory.specs.Code.Follow.{follow, hasEnd}
 use Rattle.theory.specs.Code.Next.{afters, next}
-use Rattle.theory.proofs.Tests.{T-true, or-left, or-right, or-cases, either}
+use Rattle.theory.proofs.Tests.{T-true, or-left, or-right, or-cases, either, and-true}
 use Rattle.theory.proofs.Members.{Within, gather-member, filter-of, filter-passes, member-from}
 use Rattle.theory.proofs.Sizes.{order-below}
-use Rattle.arrays.specs.Decoded.{hasBit}
-use Rattle.arrays.proofs.Bits.{and-true}
+use Rattle.words.specs.Sets.{hasBit}
+use Rattle.words.proofs.Bits.{and-bit}
 use Rattle.standing.specs.declared.Standing.{Standing}
 use Rattle.standing.specs.Stands.{means, arrays, Lent, Fine}
-use Rattle.standing.proofs.Leaves.{and-bit}
 use Rattle.matchers.proofs.Back.{below-at}
 use Rattle.matchers.specs.Passes.{Same, kindOf, Run}
 

@@ -11,7 +11,7 @@ use lib.Bits.{bitAnd}
 use Rattle.theory.specs.Pattern.{Re}
 use Rattle.theory.specs.Lines.{Below}
 use Rattle.theory.specs.Code.Passes.{farthest, leftmostStart}
-use Rattle.arrays.specs.Decoded.{hasBit}
+use Rattle.words.specs.Sets.{hasBit}
 use Rattle.standing.specs.declared.Standing.{Standing}
 use Rattle.standing.specs.Stands.{Arrays, arrays, Lent}
 use Rattle.matchers.specs.declared.Place.{Place}
@@ -72,10 +72,6 @@ Before mask alive leading ending sets y = (leaves : ℕ) → LeadingIf leaves al
 pub record Kept (masks w : List ℕ) (alive leading i r : ℕ) : Type 0 where
   pub within : r ≤ i
   pub same : (k : ℕ) → r ≤ k → k < i → bitAnd (getD masks (getD w k 0) 0) leading ≡ alive
-
--- r is x, with p if `is`.
-abbrev pub Added : Bool → ℕ → ℕ → ℕ → Type 0
-Added is x p r = (k : ℕ) → hasBit r k ≡ (hasBit x k || (is && eqb k p))
 
 -- The pass back: the leftmost start.
 abbrev pub Leftmost : List ℕ → List ℕ → List ℕ → List ℕ → Place → Type 0

@@ -5,10 +5,9 @@ ghost use mathlib.Core.Option.{some};
 ghost use Prim.Native.Nat.{_≤_, _<_};
 ghost use lib.ListN.{length};
 ghost use lib.Dec.{eqb};
-ghost use Rattle.standing.specs.Sets.{Parted};
 ghost use Rattle.standing.specs.Stands.{arrays};
 ghost use Rattle.matchers.specs.Cuts.{Cuts};
-ghost use Rattle.matchers.specs.Passes.{placeOf, spansFrom, wantsOf, Covers, Ending, Leading, Memory, Recalled, Before, Kept, Added, LastStart, Leftmost, SameLeaves, SameIf, Run, Passed, Ended};
+ghost use Rattle.matchers.specs.Passes.{placeOf, spansFrom, wantsOf, Covers, Ending, Leading, Memory, Recalled, Before, Kept, LastStart, Leftmost, SameLeaves, SameIf, Run, Passed, Ended};
 use standing::Standing;
 
 // Both spans of a line: nowhere, or one start with the greedy and the POSIX end.
@@ -33,29 +32,6 @@ struct Ends {
     posix: Place,
 }
 
-// The least leaf of a set, and the others.
-struct Taken {
-    leaf: usize,
-    rest: u64,
-}
-
-fn wide(x: u8) -> usize
-    ensures { λ r. ⌜ (r ≡ x) × (r < 256) ⌝ }
-{
-    x as usize
-}
-
-// The set x, with p if `is`.
-fn add_if(is: bool, x: u64, p: usize) -> u64
-    requires { ⌜ p < 64 ⌝ }
-    ensures { λ r. ⌜ Added is x p r ⌝ }
-{
-    if is {
-        return x | 1 << p;
-    }
-    x
-}
-
 // The place i if `is`, else the other.
 fn at_if(is: bool, i: usize, other: Place) -> Place
     ensures { λ r. ⌜ placeOf r ≡ cond is (some i) (placeOf other) ⌝ }
@@ -71,16 +47,6 @@ fn wants(set: u64, alive: u64) -> bool
     ensures { λ r. ⌜ r ≡ wantsOf set alive ⌝ }
 {
     set & alive != 0
-}
-
-fn take_least(x: u64) -> Taken
-    requires { ⌜ 0 < x ⌝ }
-    ensures { λ r. ⌜ Parted x (r .leaf) (r .rest) ⌝ }
-{
-    Taken {
-        leaf: u64::trailing_zeros(x) as usize,
-        rest: x & x - 1,
-    }
 }
 
 // All leaves that some row wants: no row leads to an end by another.
@@ -103,9 +69,9 @@ fn ending_leaves<'a>(leaves: u64, ends: &'a [u8; 65]) -> u64
     let mut x = 0u64;
     let mut rest = leaves;
     while rest != 0 {
-        let t = take_least(rest);
+        let t = words::take_least(rest);
         let p = t.leaf;
-        x = add_if(ends[p + 1] == 1, x, p);
+        x = words::with_if(ends[p + 1] == 1, x, p);
         rest = t.rest;
     }
     x
@@ -118,9 +84,9 @@ fn leading_leaves<'a>(leaves: u64, alive: u64, ending: u64, sets: &'a [u64; 65])
     let mut x = leaves & ending;
     let mut rest = leaves;
     while rest != 0 {
-        let t = take_least(rest);
+        let t = words::take_least(rest);
         let p = t.leaf;
-        x = add_if(wants(sets[p + 1], alive), x, p);
+        x = words::with_if(wants(sets[p + 1], alive), x, p);
         rest = t.rest;
     }
     x
@@ -143,7 +109,7 @@ fn recall<'a>(
     if alive == 0 {
         return leaves & ending;
     }
-    let t = take_least(alive);
+    let t = words::take_least(alive);
     let j = t.leaf;
     if keys[j] != alive {
         keys[j] = alive;
@@ -181,7 +147,7 @@ fn run_back<'a>(
 {
     let mut j = from;
     while 0 < j {
-        if masks[wide(line[j - 1])] & leading != alive {
+        if masks[words::wide(line[j - 1])] & leading != alive {
             return j;
         }
         j -= 1;
@@ -207,7 +173,7 @@ fn last_start<'a>(
     let mut i = run_back(line, line.len(), alive, leading, masks);
     while 0 < i {
         i -= 1;
-        alive = alive_before(masks[wide(line[i])], alive, leading, ending, sets);
+        alive = alive_before(masks[words::wide(line[i])], alive, leading, ending, sets);
         leading = recall(alive, leaves, ending, sets, &mut keys, &mut values);
         i = run_back(line, i, alive, leading, masks);
         best = at_if(wants(sets[0], alive), i, best);
@@ -283,10 +249,10 @@ fn run_end<'a>(line: &'a [u8], i: usize, all: u64, masks: &'a [u64; 256]) -> usi
     requires { ⌜ i < length (now line) ⌝ }
     ensures { λ r. ⌜ Run (now (masks .entry)) (now (line .entry)) all i r ⌝ }
 {
-    let kind = masks[wide(line[i])] & all;
+    let kind = masks[words::wide(line[i])] & all;
     let mut j = i + 1;
     while j < line.len() {
-        if masks[wide(line[j])] & all != kind {
+        if masks[words::wide(line[j])] & all != kind {
             return j;
         }
         j += 1;

@@ -8,32 +8,18 @@ ghost use Rattle.io.specs.Digits.{glyph as Digits·glyph};
 ghost use Rattle.printing.specs.Text.{Appended, Printed, hex, AlikeLine, UnlikeLine, RefusedLine, SpansLine, ExplainedLine, noneLine};
 ghost use Rattle.printing.specs.Puts.{Put, PutField, PutLine, Unended};
 
-// How many bytes the buffer has.
-fn size(out: &[u8; 65536]) -> usize
-    ensures { λ r. ⌜ (r ≡ 65536) × (r ≡ length (now (out .entry))) ⌝ }
-{
-    let all = &out[..];
-    all.len()
-}
-
-fn least(a: usize, b: usize) -> usize
-    ensures { λ r. ⌜ r ≡ min a b ⌝ }
-{
-    if a < b { a } else { b }
-}
-
 // How many bytes of the buffer are in use: all of them where n is above its size.
 fn used(out: &[u8; 65536], n: usize) -> usize
     ensures { λ r. ⌜ r ≡ min n (length (now (out .entry))) ⌝ }
 {
-    least(n, size(out))
+    words::least(n, words::length_of(out))
 }
 
 // One byte more.
 fn put_byte(out: &mut [u8; 65536], n: usize, b: u8) -> usize
     ensures { λ r. ⌜ Put (now (out .entry)) n (b ∷ []) (now (out .exit)) r ⌝ }
 {
-    let end = size(out);
+    let end = words::length_of(out);
     if n < end {
         out[n] = b;
         return n + 1;
@@ -68,7 +54,7 @@ fn glyph(d: u8) -> u8
     requires { ⌜ d < 16 ⌝ }
     ensures { λ r. ⌜ r ≡ Digits·glyph d ⌝ }
 {
-    if d < 10 { 48 + d } else { 87 + d }
+    if d < 10 { b'0' + d } else { b'a' + (d - 10) }
 }
 
 // A byte in hex: two digits.
@@ -83,7 +69,7 @@ fn put_pair(out: &mut [u8; 65536], n: usize, b: u8) -> usize
 fn put_hex(out: &mut [u8; 65536], n: usize, s: &[u8], k: usize) -> usize
     ensures { λ r. ⌜ Put (now (out .entry)) n (hex (take k (now (s .entry)))) (now (out .exit)) r ⌝ }
 {
-    let end = least(k, s.len());
+    let end = words::least(k, s.len());
     let mut m = used(out, n);
     let mut i = 0;
     while i < end {

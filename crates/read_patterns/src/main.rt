@@ -92,7 +92,7 @@ fn show_line(l: Line) {
 }
 
 fn byte(l: Line, b: u8) -> Line {
-    if b == 10 {
+    if b == b'\n' {
         show_line(l);
         return none();
     }

@@ -21,7 +21,7 @@ use Rattle.grammar.proofs.Size.{weight-heaviest, leaves-64, nodes-2303, number-
 use Rattle.grammar.proofs.Tokens.{tokens-length}
 use Rattle.grammar.proofs.Unique.{afterAlternation, text-alternation}
 use Rattle.grammar.proofs.Place.{text-length, alternation-formed, opens-alternation}
-use Rattle.tokens.specs.Held.{Holds}
+use Rattle.tokens.specs.Held.{HoldsCodes}
 use Rattle.arrays.specs.declared.Pattern.{Pattern}
 use Rattle.arrays.specs.Decoded.{decode, blank}
 use Rattle.arrays.specs.Finished.{Finished}
@@ -39,7 +39,7 @@ pub read-long : (p : List ℕ) (x : Pattern) → 255 < length p → x ≡ blank 
 read-long p x h e = record { answer = Due.refused 1 255; right = tooLong h refl refl; means = refl; beside = e }
 
 -- The array before anything is written.
-pub holds-none : Holds (replicate 2303 0) 0 []
+pub holds-none : HoldsCodes (replicate 2303 0) 0 []
 holds-none = record { size = length-replicate {A = ℕ} 2303 0; used = refl; same = refl }
 
 module _ {p a b : List ℕ} {n m e c : ℕ} (short : length p ≤ 255) (t : Alternated p 0 0 e c a n b m) where
@@ -78,11 +78,11 @@ module _ {p a b : List ℕ} {n m e c : ℕ} (short : length p ≤ 255) (t : Alte
     found-tree h = record { text = whole-text; formed = t .formed; short = short; shallow = omega (arith, t .shallow); light = not-heavy (t .load) h }
 
     -- Its codes all fit, so the arrays made of them are the written-out pattern.
-    pub found-written : c ≤ 64 → a ≡ replicate 2303 0 → n ≡ 0 → (x : Pattern) → Finished p (take m b) x → Arrays.Holds x (writeOut (t .t))
+    pub found-written : c ≤ 64 → a ≡ replicate 2303 0 → n ≡ 0 → (x : Pattern) → Finished p (take m b) x → Arrays.HoldsPattern x (writeOut (t .t))
     unfolding writeOut
     found-written h z y x f =
         let r = found-tree h in
-        let holds : Holds b m (t .wrote .codes) = t .wrote .holds [] (rw (z, y) holds-none) in
+        let holds : HoldsCodes b m (t .wrote .codes) = t .wrote .holds [] (rw (z, y) holds-none) in
         let size : length (t .wrote .codes) ≤ 2303 =
         omega (arith, sym (length-map (t .wrote .codes) (tokenOf p)) ∙ ap length (t .wrote .are) ∙ tokens-length (shape (t .t)), number-nodes 0 (shape (t .t)), nodes-2303 p (t .t) r) in
         let codes : take m b ≡ t .wrote .codes = holds .same ∙ take-all 2303 (t .wrote .codes) size in
@@ -96,7 +96,7 @@ module _ {p : List ℕ} (short : length p ≤ 255) (x : Pattern) where
   accept : {b : List ℕ} {m e c : ℕ} (r : Answer) → r ≡ Accepted → (t : Alternated p 0 0 e c (replicate 2303 0) 0 b m) → length p ≤ e → c ≤ 64 → (r ≡ Accepted → Finished p (take m b) x) → ReadRight p (record { answer = r; pattern = x })
   accept r q t l h f =
       let w = found-written short t l h refl refl x (f q) in
-      rw q (record { answer = Due.accepted (t .t); right = found-tree short t l h; means = ap accepted (w .decodes); beside = subst (Arrays.Holds x) (sym (w .decodes)) w })
+      rw q (record { answer = Due.accepted (t .t); right = found-tree short t l h; means = ap accepted (w .decodes); beside = subst (Arrays.HoldsPattern x) (sym (w .decodes)) w })
 
   pub read-right : {b : List ℕ} {m : ℕ} {part : Part} (r : Answer) → AlternationRead p 0 0 (replicate 2303 0) 0 b m part → r ≡ answerBy (length p) part → (r ≡ Accepted → Finished p (take m b) x) → ((n q : ℕ) → r ≡ Answer.Refused n q → x ≡ blank)
       → ReadRight p (record { answer = r; pattern = x })

@@ -14,8 +14,9 @@ use Rattle.grammar.specs.Refusals as Due
 use Rattle.grammar.specs.Code.Reader.{read}
 use Rattle.grammar.proofs.Size.{writeOut-numbered, leaves-64}
 use Rattle.grammar.proofs.Unique.{right-unique}
-use Rattle.arrays.specs.Decoded.{hasBit, decode}
-use Rattle.arrays.specs.Finished.{Holds}
+use Rattle.words.specs.Sets.{hasBit}
+use Rattle.arrays.specs.Decoded.{decode}
+use Rattle.arrays.specs.Finished.{HoldsPattern}
 use Rattle.arrays.proofs.Laws.{masks-hold}
 use Rattle.reader.specs.declared.Answer.the-variants.{Accepted, Refused}
 use Rattle.reader.specs.declared.Reading.{Reading}
@@ -42,7 +43,7 @@ module _ {p : List ℕ} {r : Reading} (h : ReadRight p r) where
   pub accepted-masks : r .answer ≡ Accepted → (b p : ℕ) → b < 256 → p < count (decode (r .pattern)) → hasBit (getD (r .pattern .masks) b 0) p ≡ has (decode (r .pattern)) p b
   accepted-masks e = masks-hold (r .pattern) (accepted-leaves e .0)
 
-  pub accepted-holds : r .answer ≡ Accepted → Holds (r .pattern) (decode (r .pattern))
+  pub accepted-holds : r .answer ≡ Accepted → HoldsPattern (r .pattern) (decode (r .pattern))
   accepted-holds e = subst (λ a. Beside a (r .pattern)) e (h .beside)
 
   -- Refused: with the number and place of its fault.

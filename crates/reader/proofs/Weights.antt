@@ -113,11 +113,8 @@ times-some : (n w : ℕ) → n ≢ 0 → times n w ≡ n * w
 times-some zero w h = absurd (h refl)
 times-some (suc n) w h = refl
 
-pub load-light : (n v : ℕ) → v ≢ 65 → n ≢ 0 → n * v < 65 → n * v ≡ loadOf n v
-load-light n v e h l = sym (load-other n v e ∙ ap (min 65) (times-some n v h) ∙ omega arith)
-
-pub load-heavy : (n v : ℕ) → v ≢ 65 → n ≢ 0 → 65 ≤ n * v → 65 ≡ loadOf n v
-load-heavy n v e h l = sym (load-other n v e ∙ ap (min 65) (times-some n v h) ∙ omega arith)
+pub load-least : (n v : ℕ) → v ≢ 65 → n ≢ 0 → min (n * v) 65 ≡ loadOf n v
+load-least n v e h = sym (load-other n v e ∙ ap (min 65) (times-some n v h) ∙ omega arith)
 
 pub load-small : (n v : ℕ) → n ≤ 64 → v ≤ 65 → n * v ≤ 4160
 load-small n v h k = mul-le-mul h k

@@ -9,7 +9,7 @@ use Rattle.grammar.specs.Refusals.{Right}
 use Rattle.grammar.specs.Refusals as Due
 use Rattle.arrays.specs.declared.Pattern.{Pattern}
 use Rattle.arrays.specs.Decoded.{decode, blank}
-use Rattle.arrays.specs.Finished.{Holds}
+use Rattle.arrays.specs.Finished.{HoldsPattern}
 use Rattle.reader.specs.declared.Answer.{Answer}
 use Rattle.reader.specs.declared.Answer.the-variants.{Accepted, Refused}
 use Rattle.reader.specs.declared.Reading.{Reading}
@@ -31,7 +31,7 @@ due (Due.refused n q) = refused n q
 
 -- The arrays: an accepted pattern's have a place for each part and its leaves counted, a refused one's are the empty pattern's.
 abbrev pub Beside : Answer → Pattern → Type 0
-Beside Accepted x = Holds x (decode x)
+Beside Accepted x = HoldsPattern x (decode x)
 Beside (Refused n q) x = x ≡ blank
 
 -- The reader's answer is the one that is right, and the arrays are the written-out pattern's, leaf sets included.

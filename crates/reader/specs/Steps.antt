@@ -9,13 +9,13 @@ use lib.ListN.{length, getD, drop}
 use lib.Dec.{eqb, ltb}
 use Rattle.theory.specs.Pattern.{Re}
 use Rattle.grammar.specs.Grammar.{Repeat, Alternation, Sequence, Atom, Kind, ordinary, backslash, bar, opener, closer, bracket, brace, period, stray, sign, kind, special, repeatText, alternation, sequence, atom, WfAlternation, WfSequence, WfAtom, WfRepeat}
-use Rattle.grammar.specs.Limits.{depth, depthSequence, depthAtom, times, repeated, weight, weights, weightAtom, heaviest, heaviestWithin, heaviestAtom}
+use Rattle.grammar.specs.Limits.{maxBytes, maxDepth, maxWeight, depth, depthSequence, depthAtom, times, repeated, weight, weights, weightAtom, heaviest, heaviestWithin, heaviestAtom}
 use Rattle.grammar.specs.WriteOut.{chain, shape, parts, shapeAtom, repeatOf}
 use Rattle.grammar.specs.Before.{Before, text, opens, isOnce, ready, WfBefore}
 use Rattle.grammar.specs.Refusals.{Fault}
-use Rattle.grammar.specs.Code.Tokens.{Token, tokens}
+use Rattle.grammar.specs.Code.Tokens.{maxParts, Token, tokens}
 use Rattle.grammar.specs.Code.Codes.{tokenOf}
-use Rattle.tokens.specs.Held.{Holds, Added}
+use Rattle.tokens.specs.Held.{HoldsCodes, Added}
 use Rattle.reader.specs.declared.Answer.{Answer}
 use Rattle.reader.specs.declared.Answer.the-variants.{Accepted}
 use Rattle.reader.specs.declared.Answer.the-variants as Answer
@@ -44,7 +44,7 @@ NoRepeat (b ∷ s) = isRepeat (kind b) ≡ false
 
 -- The pattern up to the place is a beginning.
 pub record Beginning (p : List ℕ) (at : ℕ) : Type 0 where
-  pub short : length p ≤ 255
+  pub short : length p ≤ maxBytes
   pub inside : at ≤ length p
   pub o : Before
   pub formed : WfBefore o
@@ -67,14 +67,18 @@ pub record AtomAt (p : List ℕ) (at : ℕ) : Type 0 where
   pub noBar : getD p at 0 ≢ 124
   pub noClose : getD p at 0 ≢ 41
 
--- A part weighs w and its heaviest part h; c is w, or 65 if one of them is above 64.
-pub data Weighs (c w h : ℕ) : Type 0 where
-  light : c ≡ w → w ≤ 64 → h ≤ 64 → Weighs c w h
-  heavy : c ≡ 65 → 64 < max w h → Weighs c w h
+-- What stands for any weight above the limit.
+abbrev pub tooHeavy : ℕ
+tooHeavy = 65
 
--- The weight of n copies of a part that weighs v, 65 for any above 64.
+-- A part weighs w and its heaviest part h; c is w, or `tooHeavy` if one of them is above the limit.
+pub data Weighs (c w h : ℕ) : Type 0 where
+  light : c ≡ w → w ≤ maxWeight → h ≤ maxWeight → Weighs c w h
+  heavy : c ≡ tooHeavy → maxWeight < max w h → Weighs c w h
+
+-- The weight of n copies of a part that weighs v.
 abbrev pub loadOf : ℕ → ℕ → ℕ
-loadOf n v = cond (eqb v 65) 65 (min 65 (times n v))
+loadOf n v = cond (eqb v tooHeavy) tooHeavy (min tooHeavy (times n v))
 
 -- The tokens of the parts of a sequence: none if it has none.
 unfoldable pub tokensOf : List Re → List Token
@@ -85,7 +89,7 @@ tokensOf (x ∷ l) = tokens (chain (x ∷ l))
 pub record Wrote (p : List ℕ) (a : List ℕ) (n : ℕ) (b : List ℕ) (m : ℕ) (ts : List Token) : Type 0 where
   pub codes : List ℕ
   pub are : map (tokenOf p) codes ≡ ts
-  pub holds : (l : List ℕ) → Holds a n l → Holds b m (l ++ codes)
+  pub holds : (l : List ℕ) → HoldsCodes a n l → HoldsCodes b m (l ++ codes)
 
 -- A code was added if the test holds, and else nothing changed.
 pub record AddedIf (P : Type 0) (a : List ℕ) (n code : ℕ) (b : List ℕ) (m : ℕ) : Type 0 where
@@ -96,7 +100,7 @@ pub record AddedIf (P : Type 0) (a : List ℕ) (n code : ℕ) (b : List ℕ) (m 
 pub record Rewrote (p : List ℕ) (a : List ℕ) (n from : ℕ) (b : List ℕ) (m : ℕ) (y z : Re) : Type 0 where
   pub codes : List ℕ → List ℕ
   pub are : (k : List ℕ) → map (tokenOf p) k ≡ tokens y → map (tokenOf p) (codes k) ≡ tokens z
-  pub holds : (l k : List ℕ) → Holds a n (l ++ k) → from ≡ min 2303 (length l) → Holds b m (l ++ codes k)
+  pub holds : (l k : List ℕ) → HoldsCodes a n (l ++ k) → from ≡ min maxParts (length l) → HoldsCodes b m (l ++ codes k)
 
 -- What is found, F, ends at e and weighs c; or the pattern has the fault.
 pub data PartRead (p : List ℕ) (F : ℕ → ℕ → Type 0) : Part → Type 0 where
@@ -107,7 +111,7 @@ pub data PartRead (p : List ℕ) (F : ℕ → ℕ → Type 0) : Part → Type 0 
 pub record Alternated (p : List ℕ) (at d e c : ℕ) (a : List ℕ) (n : ℕ) (b : List ℕ) (m : ℕ) : Type 0 where
   pub t : Alternation
   pub formed : WfAlternation t
-  pub shallow : d + depth t ≤ 16
+  pub shallow : d + depth t ≤ maxDepth
   pub text : alternation t (drop e p) ≡ drop at p
   pub forward : at ≤ e
   pub inside : e ≤ length p
@@ -122,7 +126,7 @@ AlternationRead p at d a n b m = PartRead p (λ e c. Alternated p at d e c a n b
 pub record Sequenced (p : List ℕ) (at d e c : ℕ) (a : List ℕ) (n : ℕ) (b : List ℕ) (m : ℕ) : Type 0 where
   pub q : Sequence
   pub formed : WfSequence q
-  pub shallow : d + depthSequence q ≤ 16
+  pub shallow : d + depthSequence q ≤ maxDepth
   pub text : sequence q (drop e p) ≡ drop at p
   pub forward : at ≤ e
   pub inside : e ≤ length p
@@ -137,7 +141,7 @@ SequenceRead p at d a n b m = PartRead p (λ e c. Sequenced p at d e c a n b m)
 pub record Atomic (p : List ℕ) (at d e c : ℕ) (a : List ℕ) (n : ℕ) (b : List ℕ) (m : ℕ) : Type 0 where
   pub x : Atom
   pub formed : WfAtom x
-  pub shallow : d + depthAtom x ≤ 16
+  pub shallow : d + depthAtom x ≤ maxDepth
   pub text : atom x (drop e p) ≡ drop at p
   pub forward : at < e
   pub inside : e ≤ length p
@@ -164,4 +168,4 @@ RepeatRead p at v a n from b m = PartRead p (λ e c. Repeated p at v e c a n fro
 -- The answer for a pattern of n bytes by what was found from its start: a `)` where the alternation ends has no `(`.
 abbrev pub answerBy : ℕ → Part → Answer
 answerBy n (Refused k q) = Answer.Refused k q
-answerBy n (Read e c) = cond (ltb e n) (Answer.Refused 2 e) (cond (ltb 64 c) (Answer.Refused 8 e) Accepted)
+answerBy n (Read e c) = cond (ltb e n) (Answer.Refused 2 e) (cond (ltb maxWeight c) (Answer.Refused 8 e) Accepted)

@@ -5,7 +5,9 @@ ghost use mathlib.Core.Logic.{_≢_};
 ghost use Prim.Native.Nat.{ℕ, _+_, _≤_, _<_, min, max};
 ghost use mathlib.Core.List.{List, [], _∷_};
 ghost use lib.ListN.{length, getD};
-ghost use Rattle.reader.specs.Steps.{isSpecial, loadOf, Begun, Ready, AtomAt, AlternationRead, SequenceRead, AtomRead, RepeatRead, AddedIf, answerBy};
+ghost use Rattle.grammar.specs.Limits.{maxBytes};
+ghost use Rattle.grammar.specs.Code.Codes.{emptyKind, sequenceKind, firstLeaf};
+ghost use Rattle.reader.specs.Steps.{isSpecial, tooHeavy, loadOf, Begun, Ready, AtomAt, AlternationRead, SequenceRead, AtomRead, RepeatRead, AddedIf, answerBy};
 ghost use Rattle.reader.specs.Reading.{ReadRight};
 ghost use Rattle.tokens.specs.Held.{Added};
 use arrays::Pattern;
@@ -24,7 +26,7 @@ pub struct Reading {
     pub pattern: Pattern,
 }
 
-// What reading from a place finds: the place after it, and its weight, 65 for any above 64; or the refusal.
+// What reading from a place finds: the place after it, and its weight, TOO_HEAVY for any above the limit; or the refusal.
 pub enum Part {
     Read { at: usize, weight: usize },
     Refused { number: u8, place: usize },
@@ -35,6 +37,9 @@ pub struct Step {
     pub part: Part,
     pub len: usize,
 }
+
+// Stands for any weight above the limit.
+const TOO_HEAVY: usize = Pattern::MAX_WEIGHT + 1;
 
 fn found(at: usize, weight: usize, len: usize) -> Step
     ensures { λ r. ⌜ r ≡ record { part = Part.Read at weight; len = len } ⌝ }
@@ -61,10 +66,10 @@ fn refused(number: u8, place: usize, len: usize) -> Step
 }
 
 fn plus(a: usize, b: usize) -> usize
-    requires { ⌜ (a ≤ 65) × (b ≤ 65) ⌝ }
-    ensures { λ r. ⌜ r ≡ min 65 (a + b) ⌝ }
+    requires { ⌜ (a ≤ tooHeavy) × (b ≤ tooHeavy) ⌝ }
+    ensures { λ r. ⌜ r ≡ min tooHeavy (a + b) ⌝ }
 {
-    if a + b < 65 { a + b } else { 65 }
+    words::least(a + b, TOO_HEAVY)
 }
 
 fn one_at_least(w: usize) -> usize
@@ -75,36 +80,50 @@ fn one_at_least(w: usize) -> usize
 
 // The weight of that many copies; a part above the limit stays so, even under {0}.
 fn load(times: usize, weight: usize) -> usize
-    requires { ⌜ (times ≤ 64) × (weight ≤ 65) ⌝ }
+    requires { ⌜ (times ≤ 64) × (weight ≤ tooHeavy) ⌝ }
     ensures { λ r. ⌜ r ≡ loadOf times weight ⌝ }
 {
-    if weight == 65 {
-        return 65;
+    if weight == TOO_HEAVY {
+        return TOO_HEAVY;
     }
     if times == 0 {
         return 1;
     }
-    let w = times * weight;
-    if w < 65 { w } else { 65 }
+    words::least(times * weight, TOO_HEAVY)
 }
 
 // An empty sequence is a part of its own.
-fn push_if_empty(a: &mut [u16; 2303], len: usize, w: usize) -> usize
-    ensures { λ r. ⌜ AddedIf (w ≡ 0) (now (a .entry)) len 0 (now (a .exit)) r ⌝ }
+fn push_if_empty(a: &mut [u16; Pattern::MAX_PARTS], len: usize, w: usize) -> usize
+    ensures { λ r. ⌜ AddedIf (w ≡ 0) (now (a .entry)) len emptyKind (now (a .exit)) r ⌝ }
 {
-    if w == 0 { tokens::push(a, len, 0) } else { len }
+    if w == 0 {
+        tokens::push(a, len, tokens::EMPTY)
+    } else {
+        len
+    }
 }
 
 // A sequence goes on after its part.
-fn push_if_more(a: &mut [u16; 2303], len: usize, w: usize) -> usize
-    ensures { λ r. ⌜ AddedIf (w ≢ 0) (now (a .entry)) len 1 (now (a .exit)) r ⌝ }
+fn push_if_more(a: &mut [u16; Pattern::MAX_PARTS], len: usize, w: usize) -> usize
+    ensures { λ r. ⌜ AddedIf (w ≢ 0) (now (a .entry)) len sequenceKind (now (a .exit)) r ⌝ }
 {
-    if w == 0 { len } else { tokens::push(a, len, 1) }
+    if w == 0 {
+        len
+    } else {
+        tokens::push(a, len, tokens::SEQUENCE)
+    }
 }
 
 // The count after an atom that weighs `weight` and whose codes begin at `from`.
-fn counted(s: &[u8], at: usize, weight: usize, a: &mut [u16; 2303], len: usize, from: usize) -> Step
-    requires { ⌜ Ready (now s) at × (at < length (now s)) × (getD (now s) at 0 ≡ 123) × (weight ≤ 65) ⌝ }
+fn counted(
+    s: &[u8],
+    at: usize,
+    weight: usize,
+    a: &mut [u16; Pattern::MAX_PARTS],
+    len: usize,
+    from: usize,
+) -> Step
+    requires { ⌜ Ready (now s) at × (at < length (now s)) × (getD (now s) at 0 ≡ 123) × (weight ≤ tooHeavy) ⌝ }
     ensures { λ r. ⌜ RepeatRead (now (s .entry)) at weight (now (a .entry)) len from (now (a .exit)) (r .len) (r .part) ⌝ }
 {
     let count = scanner::read_count(s, at + 1);
@@ -126,8 +145,15 @@ fn counted(s: &[u8], at: usize, weight: usize, a: &mut [u16; 2303], len: usize, 
 }
 
 // The repeat after an atom, or none.
-fn repeat(s: &[u8], at: usize, weight: usize, a: &mut [u16; 2303], len: usize, from: usize) -> Step
-    requires { ⌜ Ready (now s) at × (weight ≤ 65) ⌝ }
+fn repeat(
+    s: &[u8],
+    at: usize,
+    weight: usize,
+    a: &mut [u16; Pattern::MAX_PARTS],
+    len: usize,
+    from: usize,
+) -> Step
+    requires { ⌜ Ready (now s) at × (weight ≤ tooHeavy) ⌝ }
     ensures { λ r. ⌜ RepeatRead (now (s .entry)) at weight (now (a .entry)) len from (now (a .exit)) (r .len) (r .part) ⌝ }
 {
     if at == s.len() {
@@ -146,24 +172,23 @@ fn repeat(s: &[u8], at: usize, weight: usize, a: &mut [u16; 2303], len: usize, f
         let n = tokens::between(a, len, from, 0, 1);
         return found(at + 1, weight, n);
     }
-    // an opening brace
-    if b == 123 {
+    if b == b'{' {
         return counted(s, at, weight, a, len, from);
     }
     found(at, weight, len)
 }
 
-// A leaf's code is 4 and its place.
-fn push_leaf(a: &mut [u16; 2303], len: usize, at: usize) -> usize
-    requires { ⌜ at ≤ 255 ⌝ }
-    ensures { λ r. ⌜ Added (now (a .entry)) len ((4 + at) ∷ []) (now (a .exit)) r ⌝ }
+// A leaf's code is its place after the kinds.
+fn push_leaf(a: &mut [u16; Pattern::MAX_PARTS], len: usize, at: usize) -> usize
+    requires { ⌜ at ≤ maxBytes ⌝ }
+    ensures { λ r. ⌜ Added (now (a .entry)) len ((firstLeaf + at) ∷ []) (now (a .exit)) r ⌝ }
 {
-    let code = (4 + at) as u16;
+    let code = arrays::LEAF_CODE + at as u16;
     tokens::push(a, len, code)
 }
 
 // An escaped byte.
-fn escaped(s: &[u8], at: usize, depth: usize, a: &mut [u16; 2303], len: usize) -> Step
+fn escaped(s: &[u8], at: usize, depth: usize, a: &mut [u16; Pattern::MAX_PARTS], len: usize) -> Step
     requires { ⌜ Begun (now s) at depth × (at < length (now s)) × (getD (now s) at 0 ≡ 92) ⌝ }
     ensures { λ r. ⌜ AtomRead (now (s .entry)) at depth (now (a .entry)) len (now (a .exit)) (r .len) (r .part) ⌝ }
 {
@@ -178,7 +203,13 @@ fn escaped(s: &[u8], at: usize, depth: usize, a: &mut [u16; 2303], len: usize) -
 }
 
 // A class.
-fn class_atom(s: &[u8], at: usize, depth: usize, a: &mut [u16; 2303], len: usize) -> Step
+fn class_atom(
+    s: &[u8],
+    at: usize,
+    depth: usize,
+    a: &mut [u16; Pattern::MAX_PARTS],
+    len: usize,
+) -> Step
     requires { ⌜ Begun (now s) at depth × (at < length (now s)) × (getD (now s) at 0 ≡ 91) ⌝ }
     ensures { λ r. ⌜ AtomRead (now (s .entry)) at depth (now (a .entry)) len (now (a .exit)) (r .len) (r .part) ⌝ }
 {
@@ -191,7 +222,7 @@ fn class_atom(s: &[u8], at: usize, depth: usize, a: &mut [u16; 2303], len: usize
 }
 
 // An atom that is no group.
-fn leaf(s: &[u8], at: usize, depth: usize, a: &mut [u16; 2303], len: usize) -> Step
+fn leaf(s: &[u8], at: usize, depth: usize, a: &mut [u16; Pattern::MAX_PARTS], len: usize) -> Step
     requires { ⌜ Begun (now s) at depth × AtomAt (now s) at × (getD (now s) at 0 ≢ 40) ⌝ }
     ensures { λ r. ⌜ AtomRead (now (s .entry)) at depth (now (a .entry)) len (now (a .exit)) (r .len) (r .part) ⌝ }
 {
@@ -213,7 +244,13 @@ fn leaf(s: &[u8], at: usize, depth: usize, a: &mut [u16; 2303], len: usize) -> S
     found(at + 1, 1, n)
 }
 
-fn alternation(s: &[u8], at: usize, depth: usize, a: &mut [u16; 2303], len: usize) -> Step
+fn alternation(
+    s: &[u8],
+    at: usize,
+    depth: usize,
+    a: &mut [u16; Pattern::MAX_PARTS],
+    len: usize,
+) -> Step
     requires { ⌜ Begun (now s) at depth ⌝ }
     ensures { λ r. ⌜ AlternationRead (now (s .entry)) at depth (now (a .entry)) len (now (a .exit)) (r .len) (r .part) ⌝ }
 {
@@ -237,14 +274,20 @@ fn alternation(s: &[u8], at: usize, depth: usize, a: &mut [u16; 2303], len: usiz
                 return rest;
             };
             let d3 = rest.len;
-            let d4 = tokens::push(a, d3, 2);
+            let d4 = tokens::push(a, d3, tokens::ALTERNATION);
             return found(last, plus(own, v), d4);
         }
     }
     found(end, own, d2)
 }
 
-fn sequence(s: &[u8], at: usize, depth: usize, a: &mut [u16; 2303], len: usize) -> Step
+fn sequence(
+    s: &[u8],
+    at: usize,
+    depth: usize,
+    a: &mut [u16; Pattern::MAX_PARTS],
+    len: usize,
+) -> Step
     requires { ⌜ Begun (now s) at depth ⌝ }
     ensures { λ r. ⌜ SequenceRead (now (s .entry)) at depth (now (a .entry)) len (now (a .exit)) (r .len) (r .part) ⌝ }
 {
@@ -288,7 +331,7 @@ fn sequence(s: &[u8], at: usize, depth: usize, a: &mut [u16; 2303], len: usize) 
     found(last, plus(v, u), d4)
 }
 
-fn atom(s: &[u8], at: usize, depth: usize, a: &mut [u16; 2303], len: usize) -> Step
+fn atom(s: &[u8], at: usize, depth: usize, a: &mut [u16; Pattern::MAX_PARTS], len: usize) -> Step
     requires { ⌜ Begun (now s) at depth × AtomAt (now s) at ⌝ }
     ensures { λ r. ⌜ AtomRead (now (s .entry)) at depth (now (a .entry)) len (now (a .exit)) (r .len) (r .part) ⌝ }
 {
@@ -347,12 +390,12 @@ pub fn read(s: &[u8]) -> Reading
         return Reading {
             answer: Answer::Refused {
                 number: 1,
-                place: 255,
+                place: Pattern::MAX_BYTES,
             },
             pattern: nothing,
         };
     }
-    let mut codes = [0u16; 2303];
+    let mut codes = [0u16; Pattern::MAX_PARTS];
     let whole = alternation(s, 0, 0, &mut codes, 0);
     let part = whole.part;
     let answer = judged(s, part);

@@ -11,7 +11,7 @@ use Rattle.grammar.specs.Refusals.{Right}
 use Rattle.grammar.specs.Refusals as Due
 use Rattle.arrays.specs.declared.Pattern.{Pattern}
 use Rattle.arrays.specs.Decoded.{decode}
-use Rattle.arrays.specs.Finished.{Holds}
+use Rattle.arrays.specs.Finished.{HoldsPattern}
 use Rattle.reader.specs.declared.Answer.{Answer}
 use Rattle.reader.specs.declared.Answer.the-variants.{Accepted, Refused}
 use Rattle.matchers.specs.declared.Spans.{Spans}
@@ -48,4 +48,4 @@ pub record Replied (p w : List ℕ) (r : Reply) : Type 0 where
 
 -- Both spans, for arrays that are those of a pattern.
 pub record CutBy (x : Pattern) (w : List ℕ) (s : Spans) : Type 0 where
-  pub cut : Numbered 0 (decode x) → count (decode x) ≤ 64 → Holds x (decode x) → Below 256 w → Cut (decode x) w s
+  pub cut : Numbered 0 (decode x) → count (decode x) ≤ 64 → HoldsPattern x (decode x) → Below 256 w → Cut (decode x) w s

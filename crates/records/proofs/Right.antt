@@ -16,7 +16,7 @@ use Rattle.theory.specs.Standing as Theory
 use Rattle.theory.proofs.Tests.{not-true, same-test, or-left, or-right, or-cases, either}
 use Rattle.theory.proofs.Members.{Within, filter-of, filter-passes, member-from}
 use Rattle.theory.proofs.Sizes.{order-once, order-below, order-size}
-use Rattle.arrays.specs.Decoded.{hasBit}
+use Rattle.words.specs.Sets.{hasBit}
 use Rattle.verdict.specs.Record.{recordBytes}
 use Rattle.verdict.proofs.Packed.{setBytes, sixBytes, packed}
 use Rattle.verdict.proofs.Injective.{below-by}

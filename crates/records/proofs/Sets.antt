@@ -13,8 +13,8 @@ use lib.Seq.{sets, getD-drop, drop-drop}
 use lib.Dec.{eqb}
 use lib.Pow.{shr-shr}
 use Rattle.theory.specs.Standing.{member, from}
-use Rattle.arrays.specs.Decoded.{hasBit}
-use Rattle.arrays.proofs.Bits.{no-more}
+use Rattle.words.specs.Sets.{hasBit}
+use Rattle.words.proofs.Bits.{no-more}
 use Rattle.verdict.specs.Bits.{bit, fromBits}
 use Rattle.verdict.specs.Record.{setBits}
 use Rattle.verdict.proofs.Packed.{setBytes}

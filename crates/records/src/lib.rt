@@ -9,18 +9,6 @@ ghost use Rattle.records.specs.Packing.{Packed, Unpacked};
 ghost use Rattle.records.specs.Bytes.{one, turn, bytesOf, setOf, three, threes, four, fours};
 use standing::Standing;
 
-fn least(a: usize, b: usize) -> usize
-    ensures { λ r. ⌜ r ≡ min a b ⌝ }
-{
-    if a < b { a } else { b }
-}
-
-fn wide(x: u8) -> u64
-    ensures { λ r. ⌜ (r ≡ x) × (r < 256) ⌝ }
-{
-    x as u64
-}
-
 fn one(b: bool) -> u8
     ensures { λ r. ⌜ (r ≡ one b) × (r < 2) ⌝ }
 {
@@ -119,7 +107,7 @@ fn with_order(list: &[u8; 64], n: usize) -> [u8; 64]
 pub fn pack(s: Standing, origin: usize, byte: u8) -> [u8; 64]
     ensures packed { λ r. ⌜ Packed s origin byte r ⌝ }
 {
-    let n = least(s.n, 64);
+    let n = words::least(s.n, words::LEAVES);
     let mut v = with_order(&s.list, n);
     put_flags(&mut v, n, s.first, s.some);
     put_set(&mut v, s.all);
@@ -135,7 +123,7 @@ fn set_of(v: &[u8; 64]) -> u64
     let mut i = 10;
     while 2 < i {
         i -= 1;
-        x = x * 256 + turned(wide(v[i]));
+        x = x * 256 + turned(words::wide(v[i]) as u64);
     }
     x
 }
@@ -173,7 +161,7 @@ pub fn unpack(v: [u8; 64]) -> Standing
     let all = set_of(&v);
     Standing {
         list,
-        n: wide(v[0] / 2) as usize,
+        n: words::wide(v[0] / 2),
         first: v[0] % 2 == 1,
         all,
         some: v[1] / 128 == 1,

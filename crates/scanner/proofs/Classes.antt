@@ -10,7 +10,7 @@ use lib.Dec.{eqb}
 use Rattle.grammar.specs.Grammar
 use Rattle.grammar.specs.Grammar.{Name, alpha, digit, alnum, upper, lower, xdigit, space, punct, single, range, named, class, Inside, usual, backslash, closing, opening, caret, dash, inside}
 use Rattle.grammar.specs.Sets.{bitOf, setTable, spans, inItem, inItems}
-use Rattle.grammar.specs.Code.Reader.{Found, found, missing, andThen, readItem, isClosing, readItems, readListed, isCaret, readClass}
+use Rattle.grammar.specs.Code.Reader.{Parsed, found, missing, andThen, readItem, isClosing, readItems, readListed, isCaret, readClass}
 use Rattle.grammar.specs.Code.Codes.{firstHolds, foundHolds}
 use Rattle.grammar.proofs.Texts.{InsideOk, inside-ok, len-item}
 use Rattle.grammar.proofs.Pieces.{item-sound}
@@ -59,7 +59,7 @@ items-fuel (suc f) (suc g) [] h k = refl
 items-fuel (suc f) (suc g) (b ∷ s) h k = ap (cond (isClosing (inside b)) (found [] s)) (go (readItem (b ∷ s)) (item-shorter (b ∷ s)) (items-fuel f g))
   where
     go :
-        (m : Found Grammar.Item) →
+        (m : Parsed Grammar.Item) →
         ((x : Grammar.Item) (r : List ℕ) → m ≡ found x r → length r < length (b ∷ s)) →
         ((s : List ℕ) → length s ≤ f → length s ≤ g → readItems f s ≡ readItems g s) →
         andThen m (λ x r. andThen (readItems f r) (λ l r′. found (x ∷ l) r′)) ≡ andThen m (λ x r. andThen (readItems g r) (λ l r′. found (x ∷ l) r′))

@@ -10,7 +10,7 @@ use lib.ListN.{length, drop, drop-of-length-le}
 use lib.Dec.{leb}
 use borrow.Author.Tests.{ne-eqb, leb-true}
 use Rattle.grammar.specs.Grammar.{Digits, one, two, digitsValue, Repeat, exactly, atLeast, between, isDigit}
-use Rattle.grammar.specs.Code.Reader.{Found, found, missing, orElse, readDigits, readEnd, readSecond, readComma, readCount}
+use Rattle.grammar.specs.Code.Reader.{Parsed, found, missing, orElse, readDigits, readEnd, readSecond, readComma, readCount}
 use Rattle.grammar.specs.Code.Codes.{firstHolds}
 use Rattle.scanner.specs.Scanned.{CountFound}
 use Rattle.scanner.specs.Parts.{NumberFound}
@@ -56,7 +56,7 @@ end-digit {d} {r} x (b ∷ s) e =
       | no q ↦ rw (ne-eqb b 125 q) refl
     ]
 
-else-missing : {A : Type 0} (m : Found A) → orElse m missing ≡ m
+else-missing : {A : Type 0} (m : Parsed A) → orElse m missing ≡ m
 else-missing (found a r) = refl
 else-missing missing = refl
 

@@ -13,7 +13,7 @@ use lib.Dec.{eqb}
 use borrow.Author.Tests.{ne-eqb}
 use Rattle.grammar.specs.Grammar.{Name, named, namedText}
 use Rattle.grammar.specs.Sets.{bitOf}
-use Rattle.grammar.specs.Code.Reader.{Found, found, only, strip, readNamed, readItem}
+use Rattle.grammar.specs.Code.Reader.{Parsed, found, only, strip, readNamed, readItem}
 use Rattle.grammar.specs.Code.Codes.{firstHolds}
 use Rattle.scanner.specs.Scanned.{ItemFound}
 use Rattle.scanner.specs.Parts.{begins, namedOr}
@@ -41,7 +41,7 @@ eqb-sym b c =
       | no q ↦ ne-eqb b c q ∙ sym (ne-eqb c b (λ r. q (sym r)))
     ]
 
-only-both : {A : Type 0} (x y : Bool) (m : Found A) → only x (only y m) ≡ only (x && y) m
+only-both : {A : Type 0} (x y : Bool) (m : Parsed A) → only x (only y m) ≡ only (x && y) m
 only-both true y m = refl
 only-both false y m = refl
 

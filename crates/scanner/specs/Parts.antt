@@ -8,7 +8,7 @@ use lib.ListN.{length, drop}
 use Rattle.grammar.specs.Grammar
 use Rattle.grammar.specs.Grammar.{Byte, value, Digits, digitsValue, atLeast, class}
 use Rattle.grammar.specs.Sets.{names, inItem, inItems, inClass}
-use Rattle.grammar.specs.Code.Reader.{Found, found, missing, readNamed, readRange, readItem, readItems, readListed, readClass, readDigits, readEnd, readSecond, readCount}
+use Rattle.grammar.specs.Code.Reader.{Parsed, found, missing, readNamed, readRange, readItem, readItems, readListed, readClass, readDigits, readEnd, readSecond, readCount}
 use Rattle.grammar.specs.Code.Codes.{firstHolds}
 use Rattle.scanner.specs.Scanned.{Onward, ItemFound, CountFound}
 use Rattle.scanner.specs.declared.Inner.{Inner}
@@ -31,7 +31,7 @@ abbrev pub namedOr : List ℕ → ℕ → List ℕ → ℕ → Item → Item
 namedOr p at name bit other = cond (begins name (drop at p)) (Named bit (at + length name)) other
 
 -- A byte of a class: m is what reading finds from the place `from` on.
-abbrev pub InnerFound : Found Byte → List ℕ → ℕ → Inner → Type 0
+abbrev pub InnerFound : Parsed Byte → List ℕ → ℕ → Inner → Type 0
 InnerFound m p from (Is b e) = (x : Byte) × (m ≡ found x (drop e p)) × (value x ≡ b) × Onward p from e
 InnerFound m p from NoByte = m ≡ missing
 

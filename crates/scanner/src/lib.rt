@@ -65,12 +65,6 @@ enum Listed {
     Faulty,
 }
 
-fn wide(b: u8) -> usize
-    ensures { λ r. ⌜ r ≡ b ⌝ }
-{
-    b as usize
-}
-
 // Whether b is from low to high.
 fn within(low: u8, high: u8, b: u8) -> bool
     ensures { λ r. ⌜ r ≡ spans low high b ⌝ }
@@ -237,18 +231,11 @@ pub fn read_item(s: &[u8], at: usize) -> Item
     read_range(s, next, value)
 }
 
-// A function, so that its caller has no branch.
-fn either(a: bool, b: bool) -> bool
-    ensures { λ r. ⌜ r ≡ (a || b) ⌝ }
-{
-    if a { true } else { b }
-}
-
 // The named sets that hold b, as bits.
 fn set_bits(b: u8) -> u8
     ensures { λ r. ⌜ r ≡ getD setTable b 0 ⌝ }
 {
-    SETS[wide(b)]
+    SETS[words::wide(b)]
 }
 
 // Whether the named set of the bit holds b.
@@ -267,15 +254,15 @@ fn take_item(s: &[u8], at: usize, b: u8, held: bool) -> Listed
     match item {
         Item::Single { byte, next } => Listed::Upto {
             next,
-            holds: either(held, b == byte),
+            holds: words::either(held, b == byte),
         },
         Item::Range { low, high, next } => Listed::Upto {
             next,
-            holds: either(held, within(low, high, b)),
+            holds: words::either(held, within(low, high, b)),
         },
         Item::Named { bit, next } => Listed::Upto {
             next,
-            holds: either(held, in_set(bit, b)),
+            holds: words::either(held, in_set(bit, b)),
         },
         Item::NoItem => Listed::Faulty,
     }
@@ -385,7 +372,7 @@ fn read_digits(s: &[u8], at: usize) -> Number
     if !within(b'0', b'9', b) {
         return Number::NoNumber;
     }
-    let tens = wide(b - b'0');
+    let tens = words::wide(b - b'0');
     let next = at + 1;
     if s.len() <= next {
         return Number::Value { number: tens, next };
@@ -394,7 +381,7 @@ fn read_digits(s: &[u8], at: usize) -> Number
     if !within(b'0', b'9', c) {
         return Number::Value { number: tens, next };
     }
-    let ones = wide(c - b'0');
+    let ones = words::wide(c - b'0');
     Number::Value {
         number: 10 * tens + ones,
         next: at + 2,

@@ -21,22 +21,10 @@ pub enum Progress {
     Full,
 }
 
-fn wide(x: u8) -> usize
-    ensures { λ r. ⌜ (r ≡ x) × (r < 256) ⌝ }
-{
-    x as usize
-}
-
-fn least(a: usize, b: usize) -> usize
-    ensures { λ r. ⌜ r ≡ min a b ⌝ }
-{
-    if a < b { a } else { b }
-}
-
 fn slots_of(len: usize) -> usize
     ensures { λ r. ⌜ (r ≡ slots len) × (r ≤ 65535) ⌝ }
 {
-    least(len / 64, 65535)
+    words::least(len / 64, 65535)
 }
 
 // (d) without (b).
@@ -50,7 +38,7 @@ fn is_witness(first: bool, some: bool) -> bool
 fn leads(c: u8, group: &[u8; 256], lowest: &[u8; 256]) -> bool
     ensures { λ r. ⌜ r ≡ eqb (getD (now (lowest .entry)) (getD (now (group .entry)) c 0) 0) c ⌝ }
 {
-    lowest[wide(group[wide(c)])] == c
+    lowest[words::wide(group[words::wide(c)])] == c
 }
 
 // Record q, whose standing is s, carried on by the byte c. The table has n records, and so many slots.

@@ -16,9 +16,9 @@ use Rattle.theory.specs.Code.Closure.{flat}
 use Rattle.theory.proofs.Tests.{T-true, not-true, or-cases, or-assoc, or-false, either}
 use Rattle.theory.specs.Code.Members.{nil, cons}
 use Rattle.theory.proofs.Members.{member-append, gather-append, member-from, length-from, once-gather, once-size}
-use Rattle.arrays.specs.Decoded.{hasBit}
-use Rattle.standing.specs.Reads.{Gathered, order, Sound, leaves, Read, Fronts, rowOf, after}
-use Rattle.arrays.proofs.Bits.{no-bit}
+use Rattle.words.specs.Sets.{hasBit}
+use Rattle.standing.specs.Reads.{Gathered, order, Sound, leaves, Read, Fronts, rowOf, outcomesAfter}
+use Rattle.words.proofs.Bits.{no-bit}
 
 -- Nothing is read.
 pub blank-fronts : (list : List ℕ) → length list ≡ 64 → Fronts [] (record { list = list; n = 0; seen = 0; ended = false })
@@ -157,15 +157,15 @@ module _ (f : ℕ → List ℕ) (l : List ℕ) (n : ℕ) (k : n ≤ length l) wh
 
 -- The outcomes after a leaf that takes the byte, and after any other.
 module _ (mask : ℕ) (rows lens : List ℕ) (p : ℕ) where
-  pub after-taken : p < 64 → hasBit mask p ≡ true → after mask rows lens p ≡ rowOf rows lens (p + 1)
+  pub after-taken : p < 64 → hasBit mask p ≡ true → outcomesAfter mask rows lens p ≡ rowOf rows lens (p + 1)
   after-taken h e = rw (lt-ltb p 64 h, e, add-one p)
 
-  pub after-not : hasBit mask p ≡ false → after mask rows lens p ≡ []
+  pub after-not : hasBit mask p ≡ false → outcomesAfter mask rows lens p ≡ []
   after-not e = rw e (go (ltb p 64))
     where
       go : (c : Bool) → cond (c && false) (rowOf rows lens (suc p)) [] ≡ []
       go true = refl
       go false = refl
 
-  pub after-over : 64 ≤ p → after mask rows lens p ≡ []
+  pub after-over : 64 ≤ p → outcomesAfter mask rows lens p ≡ []
   after-over h = rw (le-ltb p 64 h)

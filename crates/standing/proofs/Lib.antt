@@ -4,5 +4,4 @@ mod Outcomes
 mod Right
 -- For the layers above.
 pub mod Sets
-pub mod Leaves
 pub mod Lent

@@ -8,6 +8,7 @@ use native.Mathlib.Omega.{arith}
 use native.Mathlib.Decide.{decLt}
 use lib.ListN.{getD, take}
 use lib.Dec.{T, eqb, eqb-refl}
+use lib.Bits.{bitOr}
 use borrow.Author.Tests.{lt-ltb}
 use Rattle.theory.specs.Pattern.{Re, count, has}
 use Rattle.theory.specs.Standing.{member, once, from, filter, standing, fronts, wanted}
@@ -20,13 +21,13 @@ use Rattle.theory.specs.Code.Members.{any}
 use Rattle.theory.proofs.Members.{gather-member, filter-same}
 use Rattle.theory.proofs.Step.{step-start}
 use Rattle.theory.proofs.Closure.{closure-right, gather-once, next-moves, member-zero, member-wants}
-use Rattle.arrays.specs.Decoded.{hasBit}
+use Rattle.words.specs.Sets.{hasBit}
 use Rattle.standing.specs.declared.Standing.{Standing}
 use Rattle.standing.specs.declared.Wants.{Wants}
 use Rattle.standing.specs.Stands.{means, Arrays, Lent, Fine, Stands}
-use Rattle.standing.specs.Reads.{Gathered, order, leaves, Fronts, rowOf, after}
-use Rattle.standing.specs.Sets.{Small, goes, Wanted, United}
-use Rattle.arrays.proofs.Bits.{no-bit}
+use Rattle.standing.specs.Reads.{Gathered, order, leaves, Fronts, rowOf, outcomesAfter}
+use Rattle.standing.specs.Sets.{Small, goes, Wanted}
+use Rattle.words.proofs.Bits.{no-bit, or-bit, no-more}
 use Rattle.standing.proofs.Sets.{any-cut, any-filter, filter-cut, member-flat}
 use Rattle.standing.proofs.Outcomes.{Within, front-items, closure-within, flat-within, leaves-front, front-member, front-once}
 
@@ -88,25 +89,25 @@ module _ {a : Arrays} {r : Re} (d : Lent r a) where
       filter-same _ _ (from 0 (count r)) λ p. rw (closure-right r, gather-member (suc p) [] (items (start r))) (member-wants p (start r)) in
       λ i. record { order = o i; first = e i; all = a i; some = e i })
 
-  start-shows : (x : ℕ) → United 0 (getD (a .sets) 0 0) x → Shows (rowOf (a .rows) (a .lens) 0) x (eqb (getD (a .ends) 0 0) 1)
-  start-shows x u = record {
-    bits = λ q h. u .bits q ∙ rw (no-bit q) (d .follows .summed 0 (omega arith) .set q h);
-    small = u .small;
+  start-shows : (x : ℕ) → x ≡ bitOr 0 (getD (a .sets) 0 0) → x < 18446744073709551616 → Shows (rowOf (a .rows) (a .lens) 0) x (eqb (getD (a .ends) 0 0) 1)
+  start-shows x u few = record {
+    bits = λ q h. ap (λ y. hasBit y q) u ∙ or-bit 0 (getD (a .sets) 0 0) q ∙ rw (no-bit q) (d .follows .summed 0 (omega arith) .set q h);
+    small = λ q h. no-more x q few h;
     ended = row-end 0 (omega arith);
   }
 
-  pub first-right : (f : Gathered) (x : ℕ) → Fronts (rowOf (a .rows) (a .lens) 0) f → United 0 (getD (a .sets) 0 0) x
+  pub first-right : (f : Gathered) (x : ℕ) → Fronts (rowOf (a .rows) (a .lens) 0) f → x ≡ bitOr 0 (getD (a .sets) 0 0) → x < 18446744073709551616
       → Stands r (made f x (eqb (getD (a .ends) 0 0) 1)) (standing r [])
-  first-right f x g u =
+  first-right f x g u few =
       let w : Within (count r) (rowOf (a .rows) (a .lens) 0) = rw (d .follows .start) (closure-within r (d .numbered)) in
-      made-right r (d .most) (rowOf (a .rows) (a .lens) 0) (rowOf (a .rows) (a .lens) 0) w w f x (eqb (getD (a .ends) 0 0) 1) g (start-shows x u) (standing r []) (rw (d .follows .start) start-shown)
+      made-right r (d .most) (rowOf (a .rows) (a .lens) 0) (rowOf (a .rows) (a .lens) 0) w w f x (eqb (getD (a .ends) 0 0) 1) g (start-shows x u few) (standing r []) (rw (d .follows .start) start-shown)
 
   -- The next standing.
   module _ (b : ℕ) (byte : b < 256) where
-    after-takes : (p : ℕ) → p < count r → after (getD (a .masks) b 0) (a .rows) (a .lens) p ≡ takes r b p
+    after-takes : (p : ℕ) → p < count r → outcomesAfter (getD (a .masks) b 0) (a .rows) (a .lens) p ≡ takes r b p
     after-takes p h = rw (lt-ltb p 64 (omega (arith, d .most)), d .masked b p byte h, d .follows .after p h)
 
-    flat-takes : (l : List ℕ) → ((p : ℕ) → T (member p l) → p < count r) → flat (after (getD (a .masks) b 0) (a .rows) (a .lens)) l ≡ flat (takes r b) l
+    flat-takes : (l : List ℕ) → ((p : ℕ) → T (member p l) → p < count r) → flat (outcomesAfter (getD (a .masks) b 0) (a .rows) (a .lens)) l ≡ flat (takes r b) l
     flat-takes [] h = refl
     flat-takes (p ∷ l) h = rw (after-takes p (h p (or-left (eqb p p) (member p l) (eqb-refl p))), flat-takes l λ q t. h q (or-right (eqb q p) (member q l) t))
 
@@ -144,7 +145,7 @@ module _ {a : Arrays} {r : Re} (d : Lent r a) where
         ended = g .some ∙ each 0 (λ p. eqb (getD (a .ends) (suc p) 0) 1) (λ p k. row-end (suc p) (omega arith));
       }
 
-    pub next-right : (s : Standing) {z : Theory.Standing} → Stands r s z → (f : Gathered) (w : Wants) → Fronts (flat (after (getD (a .masks) b 0) (a .rows) (a .lens)) (take (min (s .n) 64) (s .list))) f
+    pub next-right : (s : Standing) {z : Theory.Standing} → Stands r s z → (f : Gathered) (w : Wants) → Fronts (flat (outcomesAfter (getD (a .masks) b 0) (a .rows) (a .lens)) (take (min (s .n) 64) (s .list))) f
         → Wanted (goes (s .all) (getD (a .masks) b 0)) (a .sets) (a .ends) w → Stands r (made f (w .all) (w .some)) (next r z b)
     next-right s stands f w g c =
         let fine = stands .fine in

@@ -9,16 +9,17 @@ use native.Mathlib.Decide.{decLt}
 use native.Mathlib.Numerals.{add-one}
 use lib.ListN.{getD}
 use lib.Dec.{T, eqb, eqb→eq}
+use lib.Bits.{bitOr}
 use Rattle.theory.specs.Standing.{member, from, filter}
 use Rattle.theory.specs.Code.Closure.{flat}
 use borrow.Author.Tests.{eqb-true}
-use Rattle.theory.proofs.Tests.{T-true, same-test, or-left, or-right, or-cases, or-assoc, or-false, either}
+use Rattle.theory.proofs.Tests.{T-true, same-test, or-left, or-right, or-cases, or-assoc, or-false, either, and-true}
 use Rattle.theory.specs.Code.Members.{any}
 use Rattle.theory.proofs.Members.{any-found, any-of, member-append, member-from}
-use Rattle.arrays.specs.Decoded.{hasBit}
+use Rattle.words.specs.Sets.{hasBit, Parted}
 use Rattle.standing.specs.declared.Wants.{Wants}
-use Rattle.standing.specs.Sets.{Small, United, Parted, wants, ends, Joined, Wanted}
-use Rattle.arrays.proofs.Bits.{no-bit, and-true}
+use Rattle.standing.specs.Sets.{Small, wants, ends, Joined, Wanted}
+use Rattle.words.proofs.Bits.{no-bit, or-bit, no-more}
 
 pub from-below : (p n d : ℕ) → T (member p (from n d)) → p < n + d
 from-below p n zero t = absurd t
@@ -111,6 +112,6 @@ module _ (f : ℕ → Bool) (sets flags : List ℕ) where
       none : (g : ℕ → Bool) → any (λ p. hasBit x p && g p) (from 0 64) ≡ false
       none g = any-ext (λ p. hasBit x p && g p) (λ p. false) (from 0 64) (λ p. rw (e, no-bit p))
 
-pub joined-row : (sets flags : List ℕ) (w : Wants) (p x : ℕ) (s : Bool) → United (w .all) (getD sets (p + 1) 0) x → s ≡ (w .some || eqb (getD flags (p + 1) 0) 1)
+pub joined-row : (sets flags : List ℕ) (w : Wants) (p x : ℕ) (s : Bool) → x ≡ bitOr (w .all) (getD sets (p + 1) 0) → x < 18446744073709551616 → s ≡ (w .some || eqb (getD flags (p + 1) 0) 1)
     → Joined sets flags w p (record { all = x; some = s })
-joined-row sets flags w p x s u k = record { all = λ q. rw (← add-one p) (u .bits q); some = rw (← add-one p) k; small = u .small }
+joined-row sets flags w p x s u few k = record { all = λ q. rw (← add-one p) (ap (λ y. hasBit y q) u ∙ or-bit (w .all) (getD sets (p + 1) 0) q); some = rw (← add-one p) k; small = λ q h. no-more x q few h }

@@ -8,7 +8,7 @@ use lib.ListN.{length, getD, take, drop}
 use lib.Dec.{T, eqb, ltb}
 use Rattle.theory.specs.Standing.{member, gather, once}
 use Rattle.theory.specs.Code.Members.{Once}
-use Rattle.arrays.specs.Decoded.{hasBit}
+use Rattle.words.specs.Sets.{hasBit}
 use Rattle.standing.specs.declared.Front.{Front}
 
 -- A `Front` of the code with the list that is lent beside it.
@@ -60,5 +60,5 @@ abbrev pub rowOf : List ℕ → List ℕ → ℕ → List ℕ
 rowOf rows lens k = take (getD lens k 0) (drop (65 * k) rows)
 
 -- The outcomes after the leaf p took a byte: none if the byte's mask is without it.
-abbrev pub after : ℕ → List ℕ → List ℕ → ℕ → List ℕ
-after mask rows lens p = cond (ltb p 64 && hasBit mask p) (rowOf rows lens (suc p)) []
+abbrev pub outcomesAfter : ℕ → List ℕ → List ℕ → ℕ → List ℕ
+outcomesAfter mask rows lens p = cond (ltb p 64 && hasBit mask p) (rowOf rows lens (suc p)) []

@@ -1,31 +1,19 @@
 -- All wanted leaves as bits, as the code joins them from the leaves that take a byte.
 -- Assumes nothing.
 use mathlib.Core.Path.{_≡_}
-use Prim.Native.Nat.{ℕ, suc, _≤_, _<_}
-use mathlib.Core.Bool.{Bool, true, false, not, _&&_, _||_}
+use Prim.Native.Nat.{ℕ, suc, _≤_}
+use mathlib.Core.Bool.{Bool, false, _&&_, _||_}
 use mathlib.Core.List.{List}
 use lib.ListN.{getD}
 use lib.Dec.{eqb}
 use Rattle.theory.specs.Standing.{from}
 use Rattle.theory.specs.Code.Members.{any}
-use Rattle.arrays.specs.Decoded.{hasBit}
+use Rattle.words.specs.Sets.{hasBit}
 use Rattle.standing.specs.declared.Wants.{Wants}
 
 -- No bit from 64 on.
 abbrev pub Small : ℕ → Type 0
 Small x = (p : ℕ) → 64 ≤ p → hasBit x p ≡ false
-
--- r is the union of x and y.
-pub record United (x y r : ℕ) : Type 0 where
-  pub bits : (p : ℕ) → hasBit r p ≡ (hasBit x p || hasBit y p)
-  pub small : Small r
-
--- p is a leaf of the set x, and `rest` are its others.
-pub record Parted (x p rest : ℕ) : Type 0 where
-  pub below : p < 64
-  pub there : hasBit x p ≡ true
-  pub others : (q : ℕ) → hasBit rest q ≡ (hasBit x q && not (eqb q p))
-  pub less : rest < x
 
 -- The leaf p is in the set and takes the byte of the mask.
 abbrev pub goes : ℕ → ℕ → ℕ → Bool

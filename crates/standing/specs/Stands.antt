@@ -11,7 +11,7 @@ use Rattle.theory.specs.Standing.{member, from, filter, standing}
 use Rattle.theory.specs.Standing as Theory
 use Rattle.theory.specs.Code.Next.{next}
 use Rattle.theory.specs.Code.Members.{Once}
-use Rattle.arrays.specs.Decoded.{hasBit}
+use Rattle.words.specs.Sets.{hasBit}
 use Rattle.follow.specs.declared.Tables.{Tables}
 use Rattle.follow.specs.Rows.{Follows}
 use Rattle.standing.specs.declared.Standing.{Standing}

@@ -7,10 +7,9 @@ ghost use Prim.Native.Nat.{suc, _+_, _*_, _≤_, _<_, min};
 ghost use lib.ListN.{length, getD, take};
 ghost use lib.Dec.{eqb};
 ghost use Rattle.theory.specs.Code.Closure.{flat};
-ghost use Rattle.arrays.specs.Decoded.{hasBit};
 ghost use Rattle.standing.specs.Stands.{arrays, First, Carried};
-ghost use Rattle.standing.specs.Reads.{gathered, Sound, Read, Fronts, Blank, rowOf, after};
-ghost use Rattle.standing.specs.Sets.{United, Parted, goes, Joined, Wanted};
+ghost use Rattle.standing.specs.Reads.{gathered, Sound, Read, Fronts, Blank, rowOf, outcomesAfter};
+ghost use Rattle.standing.specs.Sets.{goes, Joined, Wanted};
 
 pub struct Standing {
     // (a): the first n of the list
@@ -39,44 +38,12 @@ struct Wants {
     some: bool,
 }
 
-// The least leaf of a set, and the others.
-struct Taken {
-    leaf: usize,
-    rest: u64,
-}
-
-fn wide(x: u8) -> usize
-    ensures { λ r. ⌜ (r ≡ x) × (r < 256) ⌝ }
-{
-    x as usize
-}
-
-fn least(a: usize, b: usize) -> usize
-    ensures { λ r. ⌜ r ≡ min a b ⌝ }
-{
-    if a < b { a } else { b }
-}
-
 // Where row k ends: no later than the array.
 fn row_end(k: usize, rows: &[u8; 4225], lens: &[u8; 65]) -> usize
     requires { ⌜ k ≤ 64 ⌝ }
     ensures { λ r. ⌜ (r ≤ 4225) × (r ≡ min (65 * k + getD (now (lens .entry)) k 0) (length (now (rows .entry)))) ⌝ }
 {
-    let all = &rows[..];
-    least(65 * k + wide(lens[k]), all.len())
-}
-
-fn has(x: u64, p: usize) -> bool
-    requires { ⌜ p < 64 ⌝ }
-    ensures { λ r. ⌜ r ≡ hasBit x p ⌝ }
-{
-    x >> p & 1 == 1
-}
-
-fn union(x: u64, y: u64) -> u64
-    ensures { λ r. ⌜ United x y r ⌝ }
-{
-    x | y
+    words::least(65 * k + words::wide(lens[k]), words::length_of(rows))
 }
 
 impl Front {
@@ -95,14 +62,14 @@ impl Front {
         requires { ⌜ Sound (gathered (now list) self) × (p < 64) × (eqb (self .ends) 1 ≡ false) ⌝ }
         ensures { λ r. ⌜ Read (gathered (now (list .entry)) self) (suc p ∷ []) (gathered (now (list .exit)) r) ⌝ }
     {
-        if has(self.seen, p) {
+        if words::has(self.seen, p) {
             return self;
         }
         let n = self.n;
         list[n] = p as u8;
         Front {
             n: n + 1,
-            seen: union(self.seen, 1 << p),
+            seen: words::with(self.seen, p),
             ends: self.ends,
         }
     }
@@ -137,7 +104,7 @@ impl Front {
             if r.ends == 1 {
                 return r;
             }
-            r = r.read(wide(rows[i]), list);
+            r = r.read(words::wide(rows[i]), list);
             i += 1;
         }
         r
@@ -153,10 +120,10 @@ impl Front {
         list: &mut [u8; 64],
     ) -> Front
         requires { ⌜ Sound (gathered (now list) self) ⌝ }
-        ensures { λ r. ⌜ Read (gathered (now (list .entry)) self) (after mask (now (rows .entry)) (now (lens .entry)) p) (gathered (now (list .exit)) r) ⌝ }
+        ensures { λ r. ⌜ Read (gathered (now (list .entry)) self) (outcomesAfter mask (now (rows .entry)) (now (lens .entry)) p) (gathered (now (list .exit)) r) ⌝ }
     {
         if p < 64 {
-            if has(mask, p) {
+            if words::has(mask, p) {
                 return self.read_row(p + 1, rows, lens, list);
             }
         }
@@ -174,35 +141,19 @@ fn front_after<'a>(
     list: &mut [u8; 64],
 ) -> Front
     requires { ⌜ (length (now from) ≡ 64) × (length (now list) ≡ 64) ⌝ }
-    ensures { λ r. ⌜ Fronts (flat (after mask (now (rows .entry)) (now (lens .entry))) (take (min n 64) (now (from .entry)))) (gathered (now (list .exit)) r) ⌝ }
+    ensures { λ r. ⌜ Fronts (flat (outcomesAfter mask (now (rows .entry)) (now (lens .entry))) (take (min n 64) (now (from .entry)))) (gathered (now (list .exit)) r) ⌝ }
 {
-    let most = least(n, 64);
+    let most = words::least(n, 64);
     let mut r = Front::empty();
     let mut i = 0;
     while i < most {
         if r.ends == 1 {
             return r;
         }
-        r = r.read_leaf(wide(from[i]), mask, rows, lens, list);
+        r = r.read_leaf(words::wide(from[i]), mask, rows, lens, list);
         i += 1;
     }
     r
-}
-
-fn or(a: bool, b: bool) -> bool
-    ensures { λ r. ⌜ r ≡ (a || b) ⌝ }
-{
-    a || b
-}
-
-fn take_least(x: u64) -> Taken
-    requires { ⌜ 0 < x ⌝ }
-    ensures { λ r. ⌜ Parted x (r .leaf) (r .rest) ⌝ }
-{
-    Taken {
-        leaf: u64::trailing_zeros(x) as usize,
-        rest: x & x - 1,
-    }
 }
 
 // w with the row of the leaf p.
@@ -211,8 +162,8 @@ fn join(w: Wants, p: usize, sets: &[u64; 65], ends: &[u8; 65]) -> Wants
     ensures { λ r. ⌜ Joined (now (sets .entry)) (now (ends .entry)) w p r ⌝ }
 {
     Wants {
-        all: union(w.all, sets[p + 1]),
-        some: or(w.some, ends[p + 1] == 1),
+        all: words::union(w.all, sets[p + 1]),
+        some: words::either(w.some, ends[p + 1] == 1),
     }
 }
 
@@ -226,7 +177,7 @@ fn wants_after(from: u64, mask: u64, sets: &[u64; 65], ends: &[u8; 65]) -> Wants
     };
     let mut rest = from & mask;
     while rest != 0 {
-        let t = take_least(rest);
+        let t = words::take_least(rest);
         w = join(w, t.leaf, sets, ends);
         rest = t.rest;
     }
@@ -250,7 +201,8 @@ impl Standing {
             list,
             n: front.n,
             first: front.ends == 1,
-            all: union(0, sets[0]),
+            // as a result it is known to be a number of 64 bits
+            all: words::union(0, sets[0]),
             some: ends[0] == 1,
         }
     }
@@ -267,7 +219,7 @@ impl Standing {
     ) -> Standing
         ensures next { λ r. ⌜ Carried (arrays (now (masks .entry)) (now (rows .entry)) (now (lens .entry)) (now (sets .entry)) (now (ends .entry))) self byte r ⌝ }
     {
-        let mask = masks[wide(byte)];
+        let mask = masks[words::wide(byte)];
         let mut list = [0u8; 64];
         let front = front_after(&self.list, self.n, mask, rows, lens, &mut list);
         let first = front.ends == 1;

@@ -5,29 +5,6 @@ ghost use lib.ListN.{length};
 ghost use Rattle.table.specs.Slots.{put, loaded, originAt, byteAt, Looked};
 ghost use Rattle.table.specs.Looks.{EqualRun, AgreesAt, Tells};
 
-fn wide(x: u8) -> usize
-    ensures { λ r. ⌜ (r ≡ x) × (r < 256) ⌝ }
-{
-    x as usize
-}
-
-fn least(a: usize, b: usize) -> usize
-    ensures { λ r. ⌜ r ≡ min a b ⌝ }
-{
-    if a <= b {
-        return a;
-    }
-    b
-}
-
-// The length of a record. It is known of a slice that is lent, and not of an array.
-fn size(v: &[u8; 64]) -> usize
-    ensures { λ r. ⌜ (r ≡ 64) × (r ≡ length (now (v .entry))) ⌝ }
-{
-    let all = &v[..];
-    all.len()
-}
-
 // Puts a record into slot k, if the table has it.
 pub fn store(table: &mut [u8], k: usize, v: &[u8; 64])
     ensures stored { λ _. ⌜ now (table .exit) ≡ put (now (table .entry)) k (now (v .entry)) ⌝ }
@@ -35,7 +12,7 @@ pub fn store(table: &mut [u8], k: usize, v: &[u8; 64])
     if table.len() / 64 <= k {
         return;
     }
-    let end = size(v);
+    let end = words::length_of(v);
     let at = 64 * k;
     let mut i = 0;
     while i < end {
@@ -82,7 +59,7 @@ fn agrees(table: &[u8], at: usize, v: &[u8; 64]) -> bool
     ensures { λ r. ⌜ Tells (AgreesAt (now (table .entry)) at (now (v .entry))) r ⌝ }
 {
     if equal_run(table, at, v, 0, 10) {
-        return equal_run(table, at, v, 13, size(v));
+        return equal_run(table, at, v, 13, words::length_of(v));
     }
     false
 }
@@ -92,7 +69,7 @@ fn agrees(table: &[u8], at: usize, v: &[u8; 64]) -> bool
 pub fn find(table: &[u8], n: usize, v: &[u8; 64]) -> usize
     ensures looked { λ r. ⌜ Looked (now (table .entry)) (min n (length (now (table .entry)) / 64)) (now (v .entry)) r ⌝ }
 {
-    let end = least(n, table.len() / 64);
+    let end = words::least(n, table.len() / 64);
     let mut k = 0;
     while k < end {
         if agrees(table, 64 * k, v) {
@@ -111,7 +88,7 @@ pub fn origin(table: &[u8], k: usize) -> usize
         return 0;
     }
     let at = 64 * k;
-    256 * wide(table[at + 10]) + wide(table[at + 11])
+    256 * words::wide(table[at + 10]) + words::wide(table[at + 11])
 }
 
 // The byte by which it comes from it.

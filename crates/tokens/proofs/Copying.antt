@@ -10,7 +10,7 @@ use lib.Dec.{T, leb, leb→le, nleb→lt}
 use lib.ListN.{length, take, getD, length-append, List·getD-append}
 use lib.Seq.{take-all, take-suc, getD-take, getD-append-add}
 use Rattle.grammar.specs.Code.Tokens.{blocks}
-use Rattle.tokens.specs.Held.{Holds, Added, Rewritten}
+use Rattle.tokens.specs.Held.{HoldsCodes, Added, Rewritten}
 use Rattle.tokens.specs.Copied.{Copied, again}
 use Rattle.tokens.proofs.Blocks.{again-more}
 use Rattle.tokens.proofs.Laws.{lost, full}
@@ -25,7 +25,7 @@ three : (l k z : List ℕ) → length (l ++ (k ++ z)) ≡ length l + (length k +
 three l k z = length-append l (k ++ z) ∙ ap (λ n. length l + n) (length-append k z)
 
 -- The code at the place `from + i` of an array that holds a block at `from`, and more after it, is the block's i-th.
-code-here : {b : List ℕ} {m : ℕ} (from i : ℕ) (l k z t : List ℕ) → Holds b m ((l ++ (k ++ z)) ++ t) → from ≡ length l → i < length k → from + i < 2303 → getD b (from + i) 0 ≡ getD k i 0
+code-here : {b : List ℕ} {m : ℕ} (from i : ℕ) (l k z t : List ℕ) → HoldsCodes b m ((l ++ (k ++ z)) ++ t) → from ≡ length l → i < length k → from + i < 2303 → getD b (from + i) 0 ≡ getD k i 0
 code-here {b} {m} from i l k z t s j u f =
     let o = three l k z in
     let q = length-append (l ++ (k ++ z)) t in
@@ -44,7 +44,7 @@ copy-more {b = b} {m = m} from size i h w d =
       room = λ r. d .room (w .room r);
       more = omega (arith, w .more, d .more);
       holds = λ l k z g x y.
-          let s : Holds b m ((l ++ (k ++ z)) ++ take i k) = w .holds l k z g x y in
+          let s : HoldsCodes b m ((l ++ (k ++ z)) ++ take i k) = w .holds l k z g x y in
           let u : i < length k = omega arith in
           let e : getD b (from + i) 0 ≡ getD k i 0 = code-here from i l k z (take i k) s (omega arith) u (omega arith) in
           let v : take (i + 1) k ≡ take i k ++ (getD b (from + i) 0 ∷ []) = rw (add-one i, take-suc k i 0 u, e) refl in
@@ -61,7 +61,7 @@ copy-all {b = b} {m = m} from size i h w =
           go l k z x y (w .holds l k z g x y) (leb (length l + length k) 2303) (leb→le (length l + length k) 2303) (nleb→lt (length l + length k) 2303);
     }
   where
-    go : (l k z : List ℕ) → from ≡ min 2303 (length l) → from + size ≡ min 2303 (length l + length k) → Holds b m ((l ++ (k ++ z)) ++ take i k) → (c : Bool) → (T c → length l + length k ≤ 2303) → (T (not c) → 2303 < length l + length k) → Holds b m ((l ++ (k ++ z)) ++ k)
+    go : (l k z : List ℕ) → from ≡ min 2303 (length l) → from + size ≡ min 2303 (length l + length k) → HoldsCodes b m ((l ++ (k ++ z)) ++ take i k) → (c : Bool) → (T c → length l + length k ≤ 2303) → (T (not c) → 2303 < length l + length k) → HoldsCodes b m ((l ++ (k ++ z)) ++ k)
     go l k z x y s true p q = let r = p tt in rw (take-all i k (omega arith)) at s
     go l k z x y s false p q = let r = q tt in let o = three l k z in lost (l ++ (k ++ z)) (take i k) k (omega arith) s
 

@@ -9,7 +9,7 @@ use native.Mathlib.Numerals.{add-one}
 use lib.Dec.{T, leb, leb→le, nleb→lt}
 use lib.ListN.{length, take, set, length-append, length-set}
 use lib.Seq.{take-all, take-append-le, take-suc-set, take-take}
-use Rattle.tokens.specs.Held.{Holds, Added, Rewritten}
+use Rattle.tokens.specs.Held.{HoldsCodes, Added, Rewritten}
 
 pub pushed : (a : List ℕ) (n code : ℕ) → n < 2303 → Added a n (code ∷ []) (set a n code) (n + 1)
 pushed a n code h =
@@ -29,7 +29,7 @@ pushed a n code h =
     }
 
 -- Where the codes l fill the array, what comes after them is lost.
-pub lost : {a : List ℕ} {n : ℕ} (l y z : List ℕ) → 2303 ≤ length l → Holds a n (l ++ y) → Holds a n (l ++ z)
+pub lost : {a : List ℕ} {n : ℕ} (l y z : List ℕ) → 2303 ≤ length l → HoldsCodes a n (l ++ y) → HoldsCodes a n (l ++ z)
 lost l y z h k =
     record {
       size = k .size;
@@ -90,7 +90,7 @@ take-front n l e = go (leb (length l) 2303) (leb→le (length l) 2303) (nleb→l
     go true p q = let s = p tt in take-all n l (omega arith) ∙ sym (take-all 2303 l (omega arith))
     go false p q = let s = q tt in let j : n ≡ 2303 = omega arith in ap (λ i. take i l) j
 
-front : {a : List ℕ} {n from : ℕ} (l k : List ℕ) → from ≤ n → from ≡ min 2303 (length l) → Holds a n (l ++ k) → Holds a from l
+front : {a : List ℕ} {n from : ℕ} (l k : List ℕ) → from ≤ n → from ≡ min 2303 (length l) → HoldsCodes a n (l ++ k) → HoldsCodes a from l
 front {a} {n} {from} l k h e g =
     record {
       size = g .size;

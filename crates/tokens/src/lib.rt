@@ -1,18 +1,28 @@
 // The codes of the written-out pattern while it is read: one more, and what a repeat makes of the part before it.
-// A code that finds the array full is lost; a pattern within the limits never has more than 2303.
+// A code that finds the array full is lost; a pattern within the limits never has more than the array can hold.
 ghost use mathlib.Core.Path.{_≡_};
 ghost use Prim.Native.Nat.{ℕ, _+_, _-_, _≤_};
 ghost use mathlib.Core.List.{List, [], _∷_, _++_};
 ghost use lib.ListN.{replicate};
-ghost use Rattle.grammar.specs.Code.Codes.{exactlyCodes, atLeastCodes, closeCodes, betweenCodes};
+ghost use Rattle.grammar.specs.Code.Codes.{starKind, exactlyCodes, atLeastCodes, closeCodes, betweenCodes};
 ghost use Rattle.tokens.specs.Held.{Added, Rewritten};
 ghost use Rattle.tokens.specs.Copied.{Copied, again};
+use arrays::Pattern;
+
+// The codes of parts that are no leaves: their kinds.
+pub const EMPTY: u16 = Pattern::EMPTY as u16;
+
+pub const SEQUENCE: u16 = Pattern::SEQUENCE as u16;
+
+pub const ALTERNATION: u16 = Pattern::ALTERNATION as u16;
+
+pub const STAR: u16 = Pattern::STAR as u16;
 
 // One more code.
-pub fn push(a: &mut [u16; 2303], len: usize, code: u16) -> usize
+pub fn push(a: &mut [u16; Pattern::MAX_PARTS], len: usize, code: u16) -> usize
     ensures added { λ r. ⌜ Added (now (a .entry)) len (code ∷ []) (now (a .exit)) r ⌝ }
 {
-    if len < 2303 {
+    if len < Pattern::MAX_PARTS {
         a[len] = code;
         return len + 1;
     }
@@ -20,7 +30,7 @@ pub fn push(a: &mut [u16; 2303], len: usize, code: u16) -> usize
 }
 
 // One code n times.
-fn pushes(a: &mut [u16; 2303], len: usize, code: u16, n: usize) -> usize
+fn pushes(a: &mut [u16; Pattern::MAX_PARTS], len: usize, code: u16, n: usize) -> usize
     ensures added { λ r. ⌜ Added (now (a .entry)) len (replicate n code) (now (a .exit)) r ⌝ }
 {
     let mut end = len;
@@ -33,26 +43,26 @@ fn pushes(a: &mut [u16; 2303], len: usize, code: u16, n: usize) -> usize
 }
 
 // The ends of n optional copies, from the inside out: the copy in sequence with what is inside it, or the empty sequence.
-fn closes(a: &mut [u16; 2303], len: usize, n: usize) -> usize
+fn closes(a: &mut [u16; Pattern::MAX_PARTS], len: usize, n: usize) -> usize
     ensures added { λ r. ⌜ Added (now (a .entry)) len (closeCodes n) (now (a .exit)) r ⌝ }
 {
     let mut end = len;
     let mut i = 0;
     while i < n {
-        end = push(a, end, 1);
-        end = push(a, end, 0);
-        end = push(a, end, 2);
+        end = push(a, end, SEQUENCE);
+        end = push(a, end, EMPTY);
+        end = push(a, end, ALTERNATION);
         i += 1;
     }
     end
 }
 
 // The `size` codes from `from` on, once more. A full array takes none, so that many copies cost no more than fit.
-fn copy(a: &mut [u16; 2303], len: usize, from: usize, size: usize) -> usize
+fn copy(a: &mut [u16; Pattern::MAX_PARTS], len: usize, from: usize, size: usize) -> usize
     requires { ⌜ from + size ≤ len ⌝ }
     ensures copied { λ r. ⌜ Copied (now (a .entry)) len from size (λ k. k) (now (a .exit)) r ⌝ }
 {
-    if 2302 < len {
+    if Pattern::MAX_PARTS <= len {
         return len;
     }
     let mut end = len;
@@ -67,7 +77,7 @@ fn copy(a: &mut [u16; 2303], len: usize, from: usize, size: usize) -> usize
 }
 
 // The part from `from` on, n times more.
-fn copies(a: &mut [u16; 2303], len: usize, from: usize, n: usize) -> usize
+fn copies(a: &mut [u16; Pattern::MAX_PARTS], len: usize, from: usize, n: usize) -> usize
     ensures written { λ r. ⌜ Rewritten (now (a .entry)) len from (again n) (now (a .exit)) r ⌝ }
 {
     if len < from {
@@ -84,38 +94,44 @@ fn copies(a: &mut [u16; 2303], len: usize, from: usize, n: usize) -> usize
 }
 
 // `*`: the star of the part.
-pub fn star(a: &mut [u16; 2303], len: usize, from: usize) -> usize
-    ensures written { λ r. ⌜ Rewritten (now (a .entry)) len from (λ k. k ++ (3 ∷ [])) (now (a .exit)) r ⌝ }
+pub fn star(a: &mut [u16; Pattern::MAX_PARTS], len: usize, from: usize) -> usize
+    ensures written { λ r. ⌜ Rewritten (now (a .entry)) len from (λ k. k ++ (starKind ∷ [])) (now (a .exit)) r ⌝ }
 {
-    push(a, len, 3)
+    push(a, len, STAR)
 }
 
 // `{times}`: the copies, then the sequences that join them. No copy is the empty sequence, and the part is cut off.
-pub fn exactly(a: &mut [u16; 2303], len: usize, from: usize, times: usize) -> usize
+pub fn exactly(a: &mut [u16; Pattern::MAX_PARTS], len: usize, from: usize, times: usize) -> usize
     ensures written { λ r. ⌜ Rewritten (now (a .entry)) len from (exactlyCodes times) (now (a .exit)) r ⌝ }
 {
     if times == 0 {
         if len < from {
             return len;
         }
-        return push(a, from, 0);
+        return push(a, from, EMPTY);
     }
     let joins = times - 1;
     let end = copies(a, len, from, joins);
-    pushes(a, end, 1, joins)
+    pushes(a, end, SEQUENCE, joins)
 }
 
 // `{times,}`: the copies, then the star of one more.
-pub fn at_least(a: &mut [u16; 2303], len: usize, from: usize, times: usize) -> usize
+pub fn at_least(a: &mut [u16; Pattern::MAX_PARTS], len: usize, from: usize, times: usize) -> usize
     ensures written { λ r. ⌜ Rewritten (now (a .entry)) len from (atLeastCodes times) (now (a .exit)) r ⌝ }
 {
     let copied = copies(a, len, from, times);
-    let starred = push(a, copied, 3);
-    pushes(a, starred, 1, times)
+    let starred = push(a, copied, STAR);
+    pushes(a, starred, SEQUENCE, times)
 }
 
 // `{least,most}`: the copies that must be, then the optional ones, each inside the one before.
-pub fn between(a: &mut [u16; 2303], len: usize, from: usize, least: usize, most: usize) -> usize
+pub fn between(
+    a: &mut [u16; Pattern::MAX_PARTS],
+    len: usize,
+    from: usize,
+    least: usize,
+    most: usize,
+) -> usize
     ensures written { λ r. ⌜ Rewritten (now (a .entry)) len from (betweenCodes least (most - least)) (now (a .exit)) r ⌝ }
 {
     if most <= least {
@@ -123,8 +139,8 @@ pub fn between(a: &mut [u16; 2303], len: usize, from: usize, least: usize, most:
     }
     let around = most - least - 1;
     let copied = copies(a, len, from, most - 1);
-    let none = push(a, copied, 0);
-    let inner = push(a, none, 2);
+    let none = push(a, copied, EMPTY);
+    let inner = push(a, none, ALTERNATION);
     let closed = closes(a, inner, around);
-    pushes(a, closed, 1, least)
+    pushes(a, closed, SEQUENCE, least)
 }

@@ -26,7 +26,7 @@ use Rattle.verdict.specs.Bits.{bits, pack}
 use Rattle.verdict.specs.Record.{recordBits, recordBytes}
 use Rattle.verdict.specs.Table.{same, numberOf, recordsOf, records, slots, onto}
 use Rattle.verdict.specs.Checked.{Whole, whole, Result, alike, unlike, refused as refuse}
-use Rattle.verdict.specs.Starred.{Row, cuts, checks, Holds, All, starred}
+use Rattle.verdict.specs.Starred.{Row, cuts, checks, RowHolds, All, starred}
 use Rattle.verdict.proofs.OneEnd.{Shown, alike-of, unlike-of, full-of, show}
 use Rattle.verdict.proofs.Checked.{checked-exactly}
 use Rattle.verdict.proofs.One.{answer, searched, read-answer, found, found-exactly}
@@ -80,8 +80,8 @@ spread-checks : (p t v : List ℕ) (n m : ℕ) (x : Result) (u w : List ℕ) →
 unfolding spread
 spread-checks p t v n m x u w = refl
 
-row-holds : (x : Row) → computed x ≡ x → Holds x
-unfolding Holds computed
+row-holds : (x : Row) → computed x ≡ x → RowHolds x
+unfolding RowHolds computed
 row-holds (cuts p w g s) e = go (read p) (read-right p) e
   where
     go : (a : Answer) → Right p a → cutRow p w a ≡ cuts p w g s → (a : Alternation) × Reads p a × (greedy (writeOut a) w ≡ g) × (posix (writeOut a) w ≡ s)

@@ -16,13 +16,13 @@ pub data Row : Type 0 where
   -- With any table and witness buffer of these lengths: the result, the bytes written at the table's start, and those at the buffer's start.
   checks : (pattern : List ℕ) (table buffer : ℕ) → Result → (records witness : List ℕ) → Row
 
-unfoldable pub Holds : Row → Type 0
-Holds (cuts p w g s) = (a : Alternation) × Reads p a × (greedy (writeOut a) w ≡ g) × (posix (writeOut a) w ≡ s)
-Holds (checks p n m x u w) = (t v : List ℕ) → length t ≡ n → length v ≡ m → Checked p t v (whole x (onto t u) (onto v w))
+unfoldable pub RowHolds : Row → Type 0
+RowHolds (cuts p w g s) = (a : Alternation) × Reads p a × (greedy (writeOut a) w ≡ g) × (posix (writeOut a) w ≡ s)
+RowHolds (checks p n m x u w) = (t v : List ℕ) → length t ≡ n → length v ≡ m → Checked p t v (whole x (onto t u) (onto v w))
 
 unfoldable pub All : List Row → Type 0
 All [] = Unit {0}
-All (x ∷ l) = Holds x × All l
+All (x ∷ l) = RowHolds x × All l
 
 -- The records of `a|ab`: of the lines empty, 00, 61 and 6162.
 abbrev pub three : List ℕ

@@ -22,7 +22,7 @@ loop-again : tie.Need-loop-again Inv-loop μ-loop
 loop-again c =
     let a = c .before .before .before .before .args in
     let p = c .before .before .before .loop in
-    (omega arith, places-more (a .places .now) (p .p) (a .q) (p .x) (c .add-if .result) (p .inv .1) (c .add-if .ensures))
+    (omega arith, places-more (a .places .now) (p .p) (a .q) (p .x) (c .with-if .result) (omega arith) (p .inv .1) (c .with-if .ensures))
 
 returns : tie.Need-returns Inv-loop μ-loop
 returns c =

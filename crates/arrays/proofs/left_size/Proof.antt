@@ -6,10 +6,10 @@ use Rattle.arrays.proofs.left_size.Statement.{statement}
 use Rattle.arrays.proofs.left_size.Tie as tie
 
 returns : tie.Need-returns
-returns c = left-some (c .before .before .before .before .args .sizes .now) (c .before .before .before .before .args .m) (c .before .before .wide .result) (c .before .before .wide .ensures) (c .before .if1 .taken)
+returns c = left-some (c .before .before .before .before .args .sizes .now) (c .before .before .before .before .args .m) (c .before .before .wide-u16 .result) (c .before .before .wide-u16 .ensures .0) (c .before .if1 .taken)
 
 returns-2 : tie.Need-returns-2
-returns-2 c = left-none (c .before .before .before .args .sizes .now) (c .before .before .before .args .m) (c .before .wide .result) (c .before .wide .ensures) (c .if1 .left)
+returns-2 c = left-none (c .before .before .before .args .sizes .now) (c .before .before .before .args .m) (c .before .wide-u16 .result) (c .before .wide-u16 .ensures .0) (c .if1 .left)
 
 pub left-size-spec : {M : Type 1} → statement M
 left-size-spec =

@@ -14,7 +14,7 @@ returns c =
 returns-2 : tie.Need-returns-2
 returns-2 c =
     let a = c .before .before .before .before .before .before .before .before .before .args in
-    let all = rw (c .before .before .before .wide .ensures) at (c .before .mark-all .ensures) in
+    let all = rw (c .before .before .before .wide-u16 .ensures .0) at (c .before .mark-all .ensures) in
     turn-new (a .s .now) (a .places .now) (a .n) (a .done) (a .p) (c .before .before .before .before .leaves-at .result) (c .union .result) (a .masks .now) _ (c .before .before .before .before .before .before .before .before .before .pre .1) (c .before .before .before .before .leaves-at .ensures) all (c .union .ensures)
 
 pub mark-leaf-spec : {M : Type 1} → statement M

@@ -1,5 +1,5 @@
--- Tokens as numbers, as an array holds them while a pattern is read: 0 the empty sequence, 1 a sequence of two parts, 2 an alternation of two, 3 a star, and
--- 4 + q the leaf whose text begins at the place q of the pattern.
+-- The kinds of parts as numbers, as an array holds them, and the codes of a pattern while it is read: the kinds of its parts, each leaf's with the place q of the
+-- pattern at which its text begins.
 -- Assumes nothing.
 use Prim.Native.Nat.{ℕ, zero, suc}
 use mathlib.Core.Bool.{Bool, false, not, _&&_}
@@ -8,12 +8,39 @@ use lib.ListN.{drop, replicate}
 use lib.Dec.{eqb, ltb}
 use Rattle.grammar.specs.Grammar.{Atom, byte, dot, class, group, Kind, ordinary, backslash, bar, opener, closer, bracket, brace, period, stray, sign, kind}
 use Rattle.grammar.specs.Sets.{inClass}
-use Rattle.grammar.specs.Code.Reader.{Found, found, missing, readClass}
+use Rattle.grammar.specs.Code.Reader.{Parsed, found, missing, readClass}
 use Rattle.grammar.specs.Code.Tokens.{Token, nil, both, or, many, blocks}
 use Rattle.grammar.specs.Code.Tokens
 
+-- The kinds of parts: the empty sequence, a sequence of two parts, an alternation of two, a star; the kinds of leaves come after them.
+abbrev pub emptyKind : ℕ
+emptyKind = 0
+
+abbrev pub sequenceKind : ℕ
+sequenceKind = 1
+
+abbrev pub alternationKind : ℕ
+alternationKind = 2
+
+abbrev pub starKind : ℕ
+starKind = 3
+
+abbrev pub firstLeaf : ℕ
+firstLeaf = 4
+
+pub data PartKind : Type 0 where
+  anEmpty aSequence anAlternation aStar : PartKind
+  aLeaf : ℕ → PartKind
+
+abbrev pub partKind : ℕ → PartKind
+partKind zero = anEmpty
+partKind (suc zero) = aSequence
+partKind (suc (suc zero)) = anAlternation
+partKind (suc (suc (suc zero))) = aStar
+partKind (suc (suc (suc (suc q)))) = aLeaf q
+
 -- The set of a class that was found, of a byte after `\`, and of the leaf that the text begins with. What is no leaf holds nothing.
-abbrev pub foundHolds : Found Atom → ℕ → Bool
+abbrev pub foundHolds : Parsed Atom → ℕ → Bool
 foundHolds (found (byte x) r) b = false
 foundHolds (found dot r) b = false
 foundHolds (found (class c x l) r) b = inClass c (x ∷ l) b
@@ -41,28 +68,31 @@ leafHolds [] b = false
 leafHolds (c ∷ s) b = leafBy (kind c) c s b
 
 -- The token of a code, of the pattern p. Leaves are not numbered yet.
+abbrev pub tokenBy : List ℕ → PartKind → Token
+tokenBy p anEmpty = nil
+tokenBy p aSequence = both
+tokenBy p anAlternation = or
+tokenBy p aStar = many
+tokenBy p (aLeaf q) = Tokens.byte 0 (λ b. ltb b 256 && leafHolds (drop q p) b)
+
 abbrev pub tokenOf : List ℕ → ℕ → Token
-tokenOf p zero = nil
-tokenOf p (suc zero) = both
-tokenOf p (suc (suc zero)) = or
-tokenOf p (suc (suc (suc zero))) = many
-tokenOf p (suc (suc (suc (suc q)))) = Tokens.byte 0 (λ b. ltb b 256 && leafHolds (drop q p) b)
+tokenOf p c = tokenBy p (partKind c)
 
 -- What repeats make of the codes k of a part. {m}: no copy is the empty sequence.
 abbrev pub exactlyCodes : ℕ → List ℕ → List ℕ
-exactlyCodes zero k = 0 ∷ []
-exactlyCodes (suc m) k = blocks (suc m) k (replicate m 1)
+exactlyCodes zero k = emptyKind ∷ []
+exactlyCodes (suc m) k = blocks (suc m) k (replicate m sequenceKind)
 
 -- {m,}: m copies, then the star of one.
 abbrev pub atLeastCodes : ℕ → List ℕ → List ℕ
-atLeastCodes m k = blocks (suc m) k (3 ∷ replicate m 1)
+atLeastCodes m k = blocks (suc m) k (starKind ∷ replicate m sequenceKind)
 
 -- The ends of i optional copies, each around the one before.
 abbrev pub closeCodes : ℕ → List ℕ
 closeCodes zero = []
-closeCodes (suc i) = 1 ∷ 0 ∷ 2 ∷ closeCodes i
+closeCodes (suc i) = sequenceKind ∷ emptyKind ∷ alternationKind ∷ closeCodes i
 
 -- {m,n}, i = n − m: m copies, then i optional ones, each inside the one before.
 abbrev pub betweenCodes : ℕ → ℕ → List ℕ → List ℕ
 betweenCodes m zero k = exactlyCodes m k
-betweenCodes m (suc i) k = blocks m k (blocks (suc i) k ((0 ∷ 2 ∷ closeCodes i) ++ replicate m 1))
+betweenCodes m (suc i) k = blocks m k (blocks (suc i) k ((emptyKind ∷ alternationKind ∷ closeCodes i) ++ replicate m sequenceKind))

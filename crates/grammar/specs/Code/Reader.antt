@@ -6,40 +6,40 @@ use mathlib.Core.List.{List, [], _∷_}
 use lib.Dec.{eqb, leb, ltb}
 use lib.ListN.{length}
 use Rattle.grammar.specs.Grammar.{Byte, plain, escaped, Name, Item, single, range, named, Digits, one, two, Repeat, once, exactly, atLeast, between, Alternation, last, or, nothing, part, Atom, byte, dot, class, group, Kind, ordinary, backslash, bar, opener, closer, bracket, brace, period, stray, sign, kind, special, Inside, usual, closing, opening, caret, dash, inside, marked, namedText, value, isDigit, counts}
-use Rattle.grammar.specs.Limits.{heaviest}
+use Rattle.grammar.specs.Limits.{maxBytes, maxDepth, maxWeight, heaviest}
 use Rattle.grammar.specs.Sets.{names}
 use Rattle.grammar.specs.Refusals.{Answer, accepted, refused}
 use Rattle.grammar.specs.Before.{Before, start, barred, opened, after, text, opens, ready}
 
 -- A thing that the bytes begin with, and the bytes after it.
-pub data Found (A : Type 0) : Type 0 where
-  found : A → List ℕ → Found A
-  missing : Found A
+pub data Parsed (A : Type 0) : Type 0 where
+  found : A → List ℕ → Parsed A
+  missing : Parsed A
 
-abbrev pub andThen : {A B : Type 0} → Found A → (A → List ℕ → Found B) → Found B
+abbrev pub andThen : {A B : Type 0} → Parsed A → (A → List ℕ → Parsed B) → Parsed B
 andThen (found a s) f = f a s
 andThen missing f = missing
 
-abbrev pub orElse : {A : Type 0} → Found A → Found A → Found A
+abbrev pub orElse : {A : Type 0} → Parsed A → Parsed A → Parsed A
 orElse (found a s) y = found a s
 orElse missing y = y
 
-abbrev pub only : {A : Type 0} → Bool → Found A → Found A
+abbrev pub only : {A : Type 0} → Bool → Parsed A → Parsed A
 only true x = x
 only false x = missing
 
 -- The bytes u, and then.
-abbrev pub strip : {A : Type 0} → List ℕ → A → List ℕ → Found A
+abbrev pub strip : {A : Type 0} → List ℕ → A → List ℕ → Parsed A
 strip [] a s = found a s
 strip (c ∷ u) a [] = missing
 strip (c ∷ u) a (b ∷ s) = only (eqb b c) (strip u a s)
 
 -- A class. After `\`:
-abbrev pub readEscaped : List ℕ → Found Byte
+abbrev pub readEscaped : List ℕ → Parsed Byte
 readEscaped [] = missing
 readEscaped (b ∷ s) = only (marked (inside b)) (found (escaped b) s)
 
-abbrev pub innerBy : Inside → ℕ → List ℕ → Found Byte
+abbrev pub innerBy : Inside → ℕ → List ℕ → Parsed Byte
 innerBy usual b s = found (plain b) s
 innerBy backslash b s = readEscaped s
 innerBy closing b s = missing
@@ -47,16 +47,16 @@ innerBy opening b s = missing
 innerBy caret b s = missing
 innerBy dash b s = missing
 
-abbrev pub readInner : List ℕ → Found Byte
+abbrev pub readInner : List ℕ → Parsed Byte
 readInner [] = missing
 readInner (b ∷ s) = innerBy (inside b) b s
 
-abbrev pub readNamed : List Name → List ℕ → Found Item
+abbrev pub readNamed : List Name → List ℕ → Parsed Item
 readNamed [] s = missing
 readNamed (n ∷ l) s = orElse (strip (namedText n) (named n) s) (readNamed l s)
 
 -- After a byte: a range if `-` follows.
-abbrev pub rangeBy : Inside → Byte → List ℕ → List ℕ → Found Item
+abbrev pub rangeBy : Inside → Byte → List ℕ → List ℕ → Parsed Item
 rangeBy usual x s r = found (single x) s
 rangeBy backslash x s r = found (single x) s
 rangeBy closing x s r = found (single x) s
@@ -64,11 +64,11 @@ rangeBy opening x s r = found (single x) s
 rangeBy caret x s r = found (single x) s
 rangeBy dash x s r = andThen (readInner r) (λ y r′. only (leb (value x) (value y)) (found (range x y) r′))
 
-abbrev pub readRange : Byte → List ℕ → Found Item
+abbrev pub readRange : Byte → List ℕ → Parsed Item
 readRange x [] = found (single x) []
 readRange x (b ∷ s) = rangeBy (inside b) x (b ∷ s) s
 
-abbrev pub itemBy : Inside → ℕ → List ℕ → Found Item
+abbrev pub itemBy : Inside → ℕ → List ℕ → Parsed Item
 itemBy usual b s = readRange (plain b) s
 itemBy backslash b s = andThen (readEscaped s) readRange
 itemBy closing b s = missing
@@ -76,7 +76,7 @@ itemBy opening b s = readNamed names s
 itemBy caret b s = missing
 itemBy dash b s = missing
 
-abbrev pub readItem : List ℕ → Found Item
+abbrev pub readItem : List ℕ → Parsed Item
 readItem [] = missing
 readItem (b ∷ s) = itemBy (inside b) b s
 
@@ -89,13 +89,13 @@ isClosing caret = false
 isClosing dash = false
 
 -- Items up to the `]` that ends the class. The number is the bytes left.
-unfoldable pub readItems : ℕ → List ℕ → Found (List Item)
+unfoldable pub readItems : ℕ → List ℕ → Parsed (List Item)
 readItems zero s = missing
 readItems (suc f) [] = missing
 readItems (suc f) (b ∷ s) = cond (isClosing (inside b)) (found [] s) (andThen (readItem (b ∷ s)) (λ x r. andThen (readItems f r) (λ l r′. found (x ∷ l) r′)))
 
 -- From after the `^`, or after the `[`.
-abbrev pub readListed : Bool → List ℕ → Found Atom
+abbrev pub readListed : Bool → List ℕ → Parsed Atom
 readListed c s = andThen (readItem s) (λ x r. andThen (readItems (length r) r) (λ l r′. found (class c x l) r′))
 
 abbrev pub isCaret : Inside → Bool
@@ -107,32 +107,32 @@ isCaret caret = true
 isCaret dash = false
 
 -- From after the `[`.
-abbrev pub readClass : List ℕ → Found Atom
+abbrev pub readClass : List ℕ → Parsed Atom
 readClass [] = missing
 readClass (b ∷ s) = cond (isCaret (inside b)) (readListed true s) (readListed false (b ∷ s))
 
 -- A count.
-abbrev pub secondDigit : ℕ → List ℕ → Found Digits
+abbrev pub secondDigit : ℕ → List ℕ → Parsed Digits
 secondDigit b [] = found (one b) []
 secondDigit b (c ∷ s) = cond (isDigit c) (found (two b c) s) (found (one b) (c ∷ s))
 
-abbrev pub readDigits : List ℕ → Found Digits
+abbrev pub readDigits : List ℕ → Parsed Digits
 readDigits [] = missing
 readDigits (b ∷ s) = only (isDigit b) (secondDigit b s)
 
-abbrev pub readEnd : Repeat → List ℕ → Found Repeat
+abbrev pub readEnd : Repeat → List ℕ → Parsed Repeat
 readEnd r [] = missing
 readEnd r (b ∷ s) = only (eqb b 125) (only (counts r) (found r s))
 
-abbrev pub readSecond : Digits → List ℕ → Found Repeat
+abbrev pub readSecond : Digits → List ℕ → Parsed Repeat
 readSecond m s = orElse (andThen (readDigits s) (λ n r. readEnd (between m n) r)) (readEnd (atLeast m) s)
 
-abbrev pub readComma : Digits → List ℕ → Found Repeat
+abbrev pub readComma : Digits → List ℕ → Parsed Repeat
 readComma m [] = missing
 readComma m (b ∷ s) = only (eqb b 44) (readSecond m s)
 
 -- From after the `{`.
-abbrev pub readCount : List ℕ → Found Repeat
+abbrev pub readCount : List ℕ → Parsed Repeat
 readCount s = andThen (readDigits s) (λ m r. orElse (readEnd (exactly m) r) (readComma m r))
 
 -- What a beginning comes to: the alternation since the last open bracket, with what was before that bracket if there is one.
@@ -165,11 +165,11 @@ abbrev pub escape : Before → List ℕ → Move
 escape o [] = stop 3
 escape o (b ∷ s) = cond (special (kind b)) (on (after o (byte (escaped b)) once) s) (stop 3)
 
-abbrev pub addAtom : Before → Found Atom → Move
+abbrev pub addAtom : Before → Parsed Atom → Move
 addAtom o (found a s) = on (after o a once) s
 addAtom o missing = stop 4
 
-abbrev pub addCount : Before → Found Repeat → Move
+abbrev pub addCount : Before → Parsed Repeat → Move
 addCount o (found r s) = on (put o r) s
 addCount o missing = stop 5
 
@@ -181,7 +181,7 @@ abbrev pub step : Kind → Before → ℕ → List ℕ → Move
 step ordinary o b s = on (after o (byte (plain b)) once) s
 step backslash o b s = escape o s
 step bar o b s = on (barred o) s
-step opener o b s = cond (ltb (opens o) 16) (on (opened o) s) (stop 7)
+step opener o b s = cond (ltb (opens o) maxDepth) (on (opened o) s) (stop 7)
 step closer o b s = addGroup (gather o (last nothing)) s
 step bracket o b s = addAtom o (readClass s)
 step brace o b s = cond (ready o) (addCount o (readCount s)) (stop 2)
@@ -193,7 +193,7 @@ abbrev pub place : Before → ℕ
 place o = length (text o [])
 
 abbrev pub ended : Before → Gathered → Answer
-ended o (whole t) = cond (leb (heaviest t) 64) (accepted t) (refused 8 (place o))
+ended o (whole t) = cond (leb (heaviest t) maxWeight) (accepted t) (refused 8 (place o))
 ended o (within o′ t) = refused 6 (place o)
 
 abbrev pub moved : (Before → List ℕ → Answer) → Before → Move → Answer
@@ -207,4 +207,4 @@ loop (suc f) o [] = ended o (gather o (last nothing))
 loop (suc f) o (b ∷ s) = moved (loop f) o (step (kind b) o b s)
 
 unfoldable pub read : List ℕ → Answer
-read p = cond (leb (length p) 255) (loop (length p) start p) (refused 1 255)
+read p = cond (leb (length p) maxBytes) (loop (length p) start p) (refused 1 maxBytes)

@@ -13,6 +13,10 @@ nodes (seq x y) = suc (nodes x + nodes y)
 nodes (alt x y) = suc (nodes x + nodes y)
 nodes (star x) = suc (nodes x)
 
+-- No pattern within the limits has more parts (`nodes-2303`), and one has as many.
+abbrev pub maxParts : ℕ
+maxParts = 2303
+
 pub data Token : Type 0 where
   nil both or many : Token
   byte : ℕ → (ℕ → Bool) → Token

@@ -9,12 +9,12 @@ use Rattle.lines.proofs.keep.Tie as tie
 
 returns : tie.Need-returns
 returns c =
-    let a = c .before .before .before .args in
+    let a = c .before .before .before .before .args in
     record { most = omega arith; bytes = keep-one 1025 (a .line .now) (a .n) (a .b) (omega arith) (omega arith) }
 
 returns-2 : tie.Need-returns-2
 returns-2 c =
-    let a = c .before .before .before .args in
+    let a = c .before .before .before .before .args in
     record { most = omega arith; bytes = keep-none 1025 (a .line .now) (a .n) (a .b) (omega arith) (omega arith) }
 
 pub keep-spec : {M : Type 1} → statement M

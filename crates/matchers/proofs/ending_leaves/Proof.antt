@@ -1,12 +1,13 @@
 -- `matchers::ending_leaves` meets its contract. The invariant: x and the leaves left whose row has the end are all that have it. The measure is the number whose bits are the leaves left.
 -- Assumes nothing.
 use native.Mathlib.Omega.{arith}
+use borrow.Author.Needs.{needs}
 use native.Mathlib.Numerals.{add-one}
 use Prim.Native.Nat.{suc}
 use mathlib.Core.Bool.{_&&_}
 use lib.ListN.{getD}
 use lib.Dec.{eqb}
-use Rattle.arrays.specs.Decoded.{hasBit}
+use Rattle.words.specs.Sets.{hasBit}
 use Rattle.matchers.proofs.Bits.{Left, left-turn, left-end, ending-begin}
 use Rattle.matchers.proofs.ending_leaves.Statement.{statement}
 use Rattle.matchers.proofs.ending_leaves.Tie as tie
@@ -20,24 +21,21 @@ abbrev μ-loop : tie.MeasureT-loop
 loop-holds : tie.Need-loop-holds Inv-loop μ-loop
 loop-holds c = ending-begin (c .args .leaves) (c .args .ends .now)
 
-add-add-if : tie.Need-add-add-if Inv-loop μ-loop
-add-add-if c = omega (arith, c .take-least .ensures .below)
+add-with-if : tie.Need-add-with-if Inv-loop μ-loop
+add-with-if c = omega (arith, c .take-least .ensures .parted (omega arith) .below)
 
-element-copy-out-add-if : tie.Need-element-copy-out-add-if Inv-loop μ-loop
-element-copy-out-add-if c = omega (arith, c .take-least .ensures .below)
-
-add-if-requires : tie.Need-add-if-requires Inv-loop μ-loop
-add-if-requires c κs = c .before .take-least .ensures .below
+element-copy-out-with-if : tie.Need-element-copy-out-with-if Inv-loop μ-loop
+element-copy-out-with-if c = omega (arith, c .take-least .ensures .parted (omega arith) .below)
 
 loop-less : tie.Need-loop-less Inv-loop μ-loop
-loop-less c = c .before .before .take-least .ensures .less
+loop-less c = c .before .before .take-least .ensures .parted (omega arith) .less
 
 loop-again : tie.Need-loop-again Inv-loop μ-loop
 loop-again c =
     let l = c .before .before .before .before .loop in
     let t = c .before .before .take-least in
-    let added = rw (add-one (t .result .leaf)) at (c .add-if .ensures) in
-    left-turn _ _ (l .x) (c .add-if .result) (l .rest) (t .result .leaf) (t .result .rest) (l .inv) (t .ensures) added
+    let added = rw (add-one (t .result .leaf)) at (c .with-if .ensures) in
+    left-turn _ _ (l .x) (c .with-if .result) (l .rest) (t .result .leaf) (t .result .rest) (l .inv) (t .ensures .parted (omega arith)) added
 
 returns : tie.Need-returns Inv-loop μ-loop
 returns c = left-end _ _ (c .before .loop .x) (c .before .loop .rest) (omega arith) (c .before .loop .inv)
@@ -49,10 +47,10 @@ ending-leaves-spec =
     Inv-loop
     μ-loop
     loop-holds
-    (λ c κs. omega arith)
-    add-add-if
-    element-copy-out-add-if
-    add-if-requires
+    (λ c κs. search needs)
+    add-with-if
+    element-copy-out-with-if
+    (λ c κs. search needs)
     loop-less
     loop-again
     returns)

@@ -2,9 +2,15 @@
 -- Assumes nothing.
 use Rattle.matchers.proofs.Bits.{leading-dead}
 use Rattle.matchers.proofs.Memory.{recalled-first, recalled-found, recalled-known}
+use Prim.Native.Nat.{_<_}
+use native.Mathlib.Omega.{arith}
 use borrow.Author.Needs.{needs}
 use Rattle.matchers.proofs.recall.Statement.{statement}
 use Rattle.matchers.proofs.recall.Tie as tie
+
+-- The least leaf of a set that is not empty is an entry of the memory.
+below : (c : tie.After-take-least) → c .take-least .result .leaf < 64
+below c = c .take-least .ensures .parted (omega arith) .below
 
 returns : tie.Need-returns
 returns c =
@@ -15,19 +21,19 @@ returns-2 : tie.Need-returns-2
 returns-2 c =
     let s = c .before .before .before .before in
     let a = s .args in
-    recalled-first (a .leaves) (a .ending) (a .sets .now) (c .before .before .take-least .result .leaf) (a .alive) (c .before .before .take-least .ensures .below) (a .keys .now) (a .values .now) (s .pre) (c .before .before .before .if1 .left)
+    recalled-first (a .leaves) (a .ending) (a .sets .now) (c .before .before .take-least .result .leaf) (a .alive) (below (c .before .before)) (a .keys .now) (a .values .now) (s .pre) (c .before .before .before .if1 .left)
 
 returns-3 : tie.Need-returns-3
 returns-3 c =
     let s = c .before .before .before .before .before .before .before in
     let a = s .args in
-    recalled-found (a .leaves) (a .ending) (a .sets .now) (c .before .before .before .before .before .take-least .result .leaf) (a .alive) (c .before .before .before .before .before .take-least .ensures .below) (a .keys .now) (a .values .now) (s .pre) (c .before .before .before .if2 .left) (c .leading-leaves .result) (c .leading-leaves .ensures)
+    recalled-found (a .leaves) (a .ending) (a .sets .now) (c .before .before .before .before .before .take-least .result .leaf) (a .alive) (below (c .before .before .before .before .before)) (a .keys .now) (a .values .now) (s .pre) (c .before .before .before .if2 .left) (c .leading-leaves .result) (c .leading-leaves .ensures)
 
 returns-4 : tie.Need-returns-4
 returns-4 c =
     let s = c .before .before .before .before .before .before .before in
     let a = s .args in
-    recalled-known (a .leaves) (a .ending) (a .sets .now) (c .before .before .before .before .before .take-least .result .leaf) (a .alive) (c .before .before .before .before .before .take-least .ensures .below) (a .keys .now) (a .values .now) (s .pre) (c .before .before .before .if2 .left) (c .before .if3 .left)
+    recalled-known (a .leaves) (a .ending) (a .sets .now) (c .before .before .before .before .before .take-least .result .leaf) (a .alive) (below (c .before .before .before .before .before)) (a .keys .now) (a .values .now) (s .pre) (c .before .before .before .if2 .left) (c .before .if3 .left)
 
 pub recall-spec : {M : Type 1} → statement M
 recall-spec =
@@ -35,19 +41,19 @@ recall-spec =
     (tie.spec
     returns
     (λ c κs. search needs)
-    (λ c. search needs)
-    (λ c. search needs)
-    (λ c. search needs)
-    (λ c. search needs)
-    (λ c. search needs)
-    (λ c. search needs)
+    (λ c. let h = below c in search needs)
+    (λ c. let h = below c in search needs)
+    (λ c. let h = below (c .before .before) in search needs)
+    (λ c. let h = below (c .before .before) in search needs)
+    (λ c. let h = below (c .before .before) in search needs)
+    (λ c. let h = below (c .before .before) in search needs)
     returns-2
-    (λ c. search needs)
-    (λ c. search needs)
+    (λ c. let h = below (c .before .before) in search needs)
+    (λ c. let h = below (c .before .before) in search needs)
     (λ c κs. search needs)
-    (λ c. search needs)
-    (λ c. search needs)
+    (λ c. let h = below (c .before .before .before .before .before) in search needs)
+    (λ c. let h = below (c .before .before .before .before .before) in search needs)
     returns-3
-    (λ c. search needs)
-    (λ c. search needs)
+    (λ c. let h = below (c .before .before .before .before) in search needs)
+    (λ c. let h = below (c .before .before .before .before) in search needs)
     returns-4)

@@ -1,5 +1,6 @@
 -- `printing::glyph` meets its contract: the test picks the case.
 -- Assumes nothing.
+use native.Mathlib.Omega.{arith}
 use borrow.Author.Needs.{needs}
 use borrow.Author.Tests.{lt-ltb, le-ltb}
 use Rattle.printing.proofs.glyph.Statement.{statement}
@@ -9,7 +10,7 @@ returns : tie.Need-returns
 returns c = rw (lt-ltb _ _ (c .if1 .taken))
 
 returns-2 : tie.Need-returns-2
-returns-2 c = rw (le-ltb _ _ (c .if1 .left))
+returns-2 c = rw (le-ltb _ _ (c .if1 .left)) (omega arith)
 
 pub glyph-spec : {M : Type 1} → statement M
 glyph-spec = tie.close (tie.spec (λ c. search needs) (λ c. search needs) returns returns-2)

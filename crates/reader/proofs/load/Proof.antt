@@ -1,11 +1,11 @@
 -- `load` meets its contract: the tests that led to each `return` say which case of `loadOf` holds.
 -- Assumes nothing.
+use mathlib.Core.Path.{_∙_}
 use native.Mathlib.Omega.{arith}
-use Rattle.reader.proofs.Weights.{load-65, load-zero, load-light, load-heavy, load-small}
+use borrow.Author.Needs.{needs}
+use Rattle.reader.proofs.Weights.{load-65, load-zero, load-least, load-small}
 use Rattle.reader.proofs.load.Statement.{statement}
 use Rattle.reader.proofs.load.Tie as tie
-use Rattle.reader.proofs.load.Reads as reads
-use Rattle.reader.proofs.load.Lts as lts
 
 returns : tie.Need-returns
 returns c = load-65 (c .before .args .times) (c .before .args .weight) (c .if1 .taken)
@@ -13,14 +13,11 @@ returns c = load-65 (c .before .args .times) (c .before .args .weight) (c .if1 .
 returns-2 : tie.Need-returns-2
 returns-2 c = load-zero _ _ (c .before .if1 .left) (c .if2 .taken)
 
-mul-w : tie.Need-mul-w
-mul-w c = omega (arith, load-small _ _ (c .before .before .pre .0) (c .before .before .pre .1))
+mul-least : tie.Need-mul-least
+mul-least c = omega (arith, load-small _ _ (c .before .before .pre .0) (c .before .before .pre .1))
 
 returns-3 : tie.Need-returns-3
-returns-3 c = load-light _ _ (c .before .before .if1 .left) (c .before .if2 .left) (c .if3 .taken)
-
-returns-4 : tie.Need-returns-4
-returns-4 c = load-heavy _ _ (c .before .before .if1 .left) (c .before .if2 .left) (c .if3 .left)
+returns-3 c = c .least .ensures ∙ load-least _ _ (c .before .before .if1 .left) (c .before .if2 .left)
 
 pub load-spec : {M : Type 1} → statement M
-load-spec = tie.close (tie.spec returns returns-2 mul-w returns-3 returns-4)
+load-spec = tie.close (tie.spec returns returns-2 mul-least (λ c κs. search needs) returns-3)

@@ -35,26 +35,26 @@ sub-wide : tie.Need-sub-wide
 sub-wide c = omega (arith, digit-bounds (stood (c .before .before .before)) (tens c))
 
 returns-3 : tie.Need-returns-3
-returns-3 c = rw (c .before .wide .ensures) (digits-last (stood (c .before .before .before .before .before)) (tens (c .before .before)) (c .if3 .taken))
+returns-3 c = rw (c .before .wide .ensures .0) (digits-last (stood (c .before .before .before .before .before)) (tens (c .before .before)) (c .if3 .taken))
 
 returns-4 : tie.Need-returns-4
 returns-4 c =
-    rw (c .before .before .before .before .wide .ensures)
+    rw (c .before .before .before .before .wide .ensures .0)
     (digits-one (stood (c .before .before .before .before .before .before .before .before)) (tens (c .before .before .before .before .before)) (follows (c .before .before .before)) (unseen (c .before .within2 .ensures) (c .if4 .taken)))
 
 sub-wide-2 : tie.Need-sub-wide-2
 sub-wide-2 c = omega (arith, digit-bounds (follows (c .before .before .before)) (ones c))
 
 mul-t8 : tie.Need-mul-t8
-mul-t8 c = omega (arith, c .before .before .before .before .before .wide .ensures, digit-bounds (stood (c .before .before .before .before .before .before .before .before .before)) (tens (c .before .before .before .before .before .before)))
+mul-t8 c = omega (arith, c .before .before .before .before .before .wide .ensures .0, digit-bounds (stood (c .before .before .before .before .before .before .before .before .before)) (tens (c .before .before .before .before .before .before)))
 
 add-t14 : tie.Need-add-t14
 add-t14 c =
-    omega (arith, c .before .before .before .before .before .wide .ensures, c .wide2 .ensures, digit-bounds (stood (c .before .before .before .before .before .before .before .before .before)) (tens (c .before .before .before .before .before .before)), digit-bounds (follows (c .before .before .before .before)) (ones (c .before)))
+    omega (arith, c .before .before .before .before .before .wide .ensures .0, c .wide2 .ensures .0, digit-bounds (stood (c .before .before .before .before .before .before .before .before .before)) (tens (c .before .before .before .before .before .before)), digit-bounds (follows (c .before .before .before .before)) (ones (c .before)))
 
 returns-5 : tie.Need-returns-5
 returns-5 c =
-    rw (c .before .before .before .before .before .wide .ensures, c .wide2 .ensures)
+    rw (c .before .before .before .before .before .wide .ensures .0, c .wide2 .ensures .0)
     (digits-two (stood (c .before .before .before .before .before .before .before .before .before)) (tens (c .before .before .before .before .before .before)) (follows (c .before .before .before .before)) (ones (c .before)))
 
 pub read-digits-spec : {M : Type 1} → statement M

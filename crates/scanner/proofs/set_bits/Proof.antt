@@ -8,7 +8,7 @@ use Rattle.scanner.proofs.set_bits.Tie as tie
 
 returns : tie.Need-returns
 unfolding setTable
-returns c = rw (c .wide .ensures) refl
+returns c = rw (c .wide .ensures .0) refl
 
 pub set-bits-spec : {M : Type 1} → statement M
 set-bits-spec = tie.close (tie.spec (λ c κs. search needs) (λ c. search needs) returns)

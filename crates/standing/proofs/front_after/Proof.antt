@@ -1,7 +1,7 @@
 -- `standing::front_after` meets its contract. The invariant: what the leaves from i on give is what all give. The measure is the leaves left.
 -- Assumes nothing.
 use Rattle.theory.specs.Code.Closure.{flat}
-use Rattle.standing.specs.Reads.{gathered, Sound, after}
+use Rattle.standing.specs.Reads.{gathered, Sound, outcomesAfter}
 use Rattle.standing.proofs.Fronts.{Rest, rest-more, rest-end, fronts-read, read-stop, list-turn, list-done}
 use borrow.Author.Needs.{needs}
 use borrow.Author.Tests.{eq-eqb}
@@ -12,7 +12,7 @@ use Rattle.standing.proofs.front_after.Statement.{statement}
 use Rattle.standing.proofs.front_after.Tie as tie
 
 abbrev Inv-loop : tie.InvT-loop
-Inv-loop from n mask rows lens list₀ most r₀ i₀ list r i = (i ≤ most) × (most ≤ 64) × Sound (gathered list r) × Rest (gathered list₀ r₀) (flat (after mask rows lens) (take most from)) (gathered list r) (flat (after mask rows lens) (drop i (take most from)))
+Inv-loop from n mask rows lens list₀ most r₀ i₀ list r i = (i ≤ most) × (most ≤ 64) × Sound (gathered list r) × Rest (gathered list₀ r₀) (flat (outcomesAfter mask rows lens) (take most from)) (gathered list r) (flat (outcomesAfter mask rows lens) (drop i (take most from)))
 
 abbrev μ-loop : tie.MeasureT-loop
 μ-loop from n mask rows lens list₀ most r₀ i₀ list r i = most - i
@@ -34,7 +34,7 @@ loop-again c =
     let p = c .before .before .before .before .before .before .before .loop in
     let n = c .before .before .before .before .before .before .before .before .before .least .result in
     let list = a .from .now in
-    let outcomes = after (a .mask) (a .rows .now) (a .lens .now) in (
+    let outcomes = outcomesAfter (a .mask) (a .rows .now) (a .lens .now) in (
       omega arith,
       omega arith,
       c .read-leaf .ensures .sound,
@@ -46,7 +46,7 @@ returns-2 c =
     let a = c .before .before .before .before .args in
     let p = c .before .loop in
     let list = a .from .now in
-    let outcomes = after (a .mask) (a .rows .now) (a .lens .now) in
+    let outcomes = outcomesAfter (a .mask) (a .rows .now) (a .lens .now) in
     rw (c .before .before .before .least .ensures) at
     (fronts-read _ (gathered (p .list) (p .r)) _ (c .before .before .empty .ensures _ (c .before .before .before .before .pre .1)) (rest-end _ (gathered (p .list) (p .r)) _ _ (list-done outcomes list (c .before .before .before .least .result) (omega arith) (p .i) (omega arith)) (p .inv .2) (p .inv .3)))
 

@@ -8,10 +8,11 @@ use Rattle.table.proofs.agrees.Tie as tie
 
 returns : tie.Need-returns
 returns c =
-    let a = c .before .before .before .before .before .args in
-    let n = c .before .size in
-    let low = c .before .before .before .equal-run .ensures .holds (c .before .before .if1 .taken) in
-    back-tells (a .table .now) (a .at) (a .v .now) (n .result) (omega arith) (n .ensures .0) (n .ensures .1) low (c .equal-run2 .ensures)
+    let x = c .before .before .before in
+    let a = x .before .before .before .args in
+    let n = c .before .length-of in
+    let low = x .before .equal-run .ensures .holds (x .if1 .taken) in
+    back-tells (a .table .now) (a .at) (a .v .now) (n .result) (omega arith) (omega arith) (n .ensures) low (c .equal-run2 .ensures)
 
 returns-2 : tie.Need-returns-2
 returns-2 c =

@@ -22,21 +22,21 @@ returns : tie.Need-returns Inv-loop μ-loop
 returns c = let a = c .before .before .args in sym (slot-missing (a .table .now) (a .k) _ _ (omega arith))
 
 loop-holds : tie.Need-loop-holds Inv-loop μ-loop
-loop-holds c = let a = c .before .before .before .args in (omega arith, refl, paste-zero (a .table .now) (64 * a .k) (a .v .now))
+loop-holds c = let a = c .before .before .before .before .args in (omega arith, refl, paste-zero (a .table .now) (64 * a .k) (a .v .now))
 
 loop-again : tie.Need-loop-again Inv-loop μ-loop
 loop-again c =
-    let a = c .before .before .before .before .before .before .args in
+    let a = c .before .before .before .before .before .before .before .args in
     let l = c .before .before .loop in
     (omega arith, simp length-set (l .inv .1), rw (l .inv .2, add-one) (paste-suc (a .table .now) (64 * a .k) (a .v .now) (l .i) 0 (omega arith) (omega arith)))
 
 returns-2 : tie.Need-returns-2 Inv-loop μ-loop
 returns-2 c =
-    let a = c .before .before .before .before .before .args in
-    let n = c .before .before .size in
+    let a = c .before .before .before .before .before .before .args in
+    let n = c .before .before .length-of in
     let l = c .before .loop in
     let e : l .i ≡ n .result = omega arith in
-    l .inv .2 ∙ ap (paste (a .table .now) (64 * a .k) (a .v .now)) e ∙ store-end (a .table .now) (64 * a .k) (a .v .now) (n .result) (sym (n .ensures .1)) (omega arith)
+    l .inv .2 ∙ ap (paste (a .table .now) (64 * a .k) (a .v .now)) e ∙ store-end (a .table .now) (64 * a .k) (a .v .now) (n .result) (sym (n .ensures)) (omega arith)
     ∙ sym (slot-there (a .table .now) (a .k) _ _ (omega arith))
 
 pub store-spec : {M : Type 1} → statement M

@@ -1,10 +1,9 @@
 -- `standing::Front::add` meets its contract: a leaf that is there changes nothing, and any other has room.
 -- Assumes nothing.
 use mathlib.Core.Path.{sym, _∙_, ap}
-use mathlib.Core.Bool.{_||_}
 use native.Mathlib.Omega.{arith}
-use Rattle.arrays.specs.Decoded.{hasBit}
-use Rattle.arrays.proofs.Bits.{shift-bit}
+use Rattle.words.specs.Sets.{hasBit}
+use Rattle.words.proofs.Bits.{with-bit}
 use Rattle.standing.specs.Reads.{gathered}
 use Rattle.standing.proofs.Fronts.{read-again, read-room, read-new}
 use borrow.Author.Needs.{needs}
@@ -28,8 +27,8 @@ returns-2 : tie.Need-returns-2
 returns-2 c =
     let a = c .before .before .before .args in
     let h = c .before .before .before .pre in
-    read-new (gathered (a .list .now) (a .self)) (a .p) (h .0) (h .1) (h .2) (sym (c .before .before .has .ensures) ∙ c .before .if1 .left) (c .union .result)
-    (λ q. c .union .ensures .bits q ∙ ap (λ t. hasBit (a .self .seen) q || t) (shift-bit (a .p) q (h .1)))
+    read-new (gathered (a .list .now) (a .self)) (a .p) (h .0) (h .1) (h .2) (sym (c .before .before .has .ensures) ∙ c .before .if1 .left) (c .with .result)
+    (λ q. ap (λ y. hasBit y q) (c .with .ensures) ∙ with-bit (a .self .seen) (a .p) q (h .1))
 
 pub add-spec : {M : Type 1} → statement M
 add-spec =
@@ -39,7 +38,6 @@ add-spec =
     returns
     (λ c. search needs)
     element-write-list
-    (λ c. search needs)
     (λ c. search needs)
     (λ c κs. search needs)
     returns-2)

@@ -1,38 +1,16 @@
--- Sets of leaves as numbers: the bits of an and, the bits of a half, and the least leaf of a set. The layer above cites these laws too.
+-- The least leaf of a set, and the others.
 -- Assumes nothing.
 use mathlib.Core.Path.{_≡_, refl, sym, ap, _∙_}
 use mathlib.Core.Bool.{Bool, true, false, not, _&&_}
-use Prim.Native.Nat.{ℕ, zero, suc, _-_, _^_, _/_, _%_, _<_, min}
-use native.Mathlib.Nat.{div-one, div-div-eq-div-mul, pow-suc, mul-comm, mod-lt, two-pow-succ}
+use Prim.Native.Nat.{ℕ, zero, suc, _-_, _^_, _/_, _%_, _<_}
+use native.Mathlib.Nat.{mod-lt, two-pow-succ}
 use native.Mathlib.Omega.{arith}
 use lib.Dec.{eqb, eqb·suc-suc, eqb·suc-zero}
-use lib.Bits.{bitAnd, and-step, and-shr, and-le-r}
+use lib.Bits.{and-le-r}
 use lib.Count.{trailingZeros, under}
 use borrow.Author.Tests.{eq-eqb}
-use Rattle.arrays.specs.Decoded.{hasBit}
-use Rattle.standing.specs.Sets.{Parted}
-
-and-digit : (x y q : ℕ) → bitAnd x y / 2 ^ q % 2 ≡ min (x / 2 ^ q % 2) (y / 2 ^ q % 2)
-and-digit x y q = rw (and-shr x y q) (omega (arith, and-step (x / 2 ^ q) (y / 2 ^ q)))
-
-min-one : (a b : ℕ) → a < 2 → b < 2 → eqb (min a b) 1 ≡ (eqb a 1 && eqb b 1)
-min-one zero zero h k = refl
-min-one zero (suc zero) h k = refl
-min-one zero (suc (suc b)) h k = absurd (omega arith)
-min-one (suc zero) zero h k = refl
-min-one (suc zero) (suc zero) h k = refl
-min-one (suc zero) (suc (suc b)) h k = absurd (omega arith)
-min-one (suc (suc a)) b h k = absurd (omega arith)
-
-pub and-bit : (x y q : ℕ) → hasBit (bitAnd x y) q ≡ (hasBit x q && hasBit y q)
-and-bit x y q = rw (and-digit x y q) (min-one (x / 2 ^ q % 2) (y / 2 ^ q % 2) (mod-lt _ (omega arith)) (mod-lt _ (omega arith)))
-
--- The bits of a half, and the last bit.
-pub half-bit : (z q : ℕ) → hasBit (z / 2) q ≡ hasBit z (suc q)
-half-bit z q = ap (λ n. eqb (n % 2) 1) (div-div-eq-div-mul z 2 (2 ^ q) ∙ ap (λ n. z / n) (mul-comm 2 (2 ^ q) ∙ sym (pow-suc 2 q)))
-
-pub last-bit : (z : ℕ) → hasBit z 0 ≡ eqb (z % 2) 1
-last-bit z = ap (λ n. eqb (n % 2) 1) (div-one z)
+use Rattle.words.specs.Sets.{hasBit, leastLeaf, otherLeaves, Parted}
+use Rattle.words.proofs.Bits.{and-bit, half-bit, last-bit}
 
 and-same : (a : Bool) → (a && a) ≡ (a && true)
 and-same true = refl
@@ -78,8 +56,8 @@ lowest (suc k) n h l = go (n % 2) refl (λ e. lowest k (n / 2) (omega arith) (om
     go zero e half = lowest-even n (trailingZeros k (n / 2)) k h e (half e)
     go (suc d) e half = lowest-odd n k (omega (arith, mod-lt n {m = 2} (omega arith)))
 
--- THE LEAST LEAF of a set, as the code finds it.
-pub parted : (x : ℕ) → 0 < x → x < 18446744073709551616 → Parted x (trailingZeros 64 x) (bitAnd x (x - 1))
+-- The least leaf of a set that has one.
+pub parted : (x : ℕ) → 0 < x → x < 18446744073709551616 → Parted x (leastLeaf x) (otherLeaves x)
 parted x h l =
     let low = lowest 64 x h l in
     record {

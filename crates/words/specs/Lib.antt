@@ -1,0 +1,2 @@
+-- Sets of leaves as numbers.
+pub mod Sets
