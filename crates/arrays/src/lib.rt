@@ -10,12 +10,19 @@ ghost use Rattle.arrays.specs.Decoded.{blank};
 ghost use Rattle.arrays.specs.Passes.{Noted, Numbered, Small, leftSize, sizeOf, sizeAt, Sized, Places, Marked, MarkedTo, Masked, Turn};
 ghost use Rattle.arrays.specs.Finished.{Finished};
 
+// The reader's codes, and the kinds and sizes of the parts: one for each place.
+pub type Codes = [u16; Pattern::MAX_PARTS];
+
+pub type Kinds = [u8; Pattern::MAX_PARTS];
+
+pub type Sizes = [u16; Pattern::MAX_PARTS];
+
 // Post-order: a part's last place has its kind and its size, its parts stand before it.
 pub struct Pattern {
     // the kind of the part that ends here: one of the kinds below, or FIRST_LEAF + p for the leaf p
-    pub kinds: [u8; Pattern::MAX_PARTS],
+    pub kinds: Kinds,
     // how many places the part that ends here has
-    pub sizes: [u16; Pattern::MAX_PARTS],
+    pub sizes: Sizes,
     pub len: usize,
     // bit p of masks[b]: the set of the leaf p holds the byte b
     pub masks: [u64; 256],
@@ -71,13 +78,7 @@ fn leaf_kind(p: usize) -> u8
 }
 
 // The first pass, at the code c of the place i: its kind, and the place in the text of a leaf. p leaves stand before it; a 65th is not kept.
-fn note(
-    c: u16,
-    i: usize,
-    p: usize,
-    kinds: &mut [u8; Pattern::MAX_PARTS],
-    places: &mut [u16; 64],
-) -> usize
+fn note(c: u16, i: usize, p: usize, kinds: &mut Kinds, places: &mut [u16; 64]) -> usize
     requires { ⌜ (i < maxParts) × (p ≤ 64) ⌝ }
     ensures { λ r. ⌜ Noted c i p (now (kinds .entry)) (now (places .entry)) (now (kinds .exit)) (now (places .exit)) r ⌝ }
 {
@@ -95,12 +96,7 @@ fn note(
 }
 
 // The kinds of the first n codes, the places of their leaves, and how many leaves there are.
-fn number_leaves(
-    codes: &[u16; Pattern::MAX_PARTS],
-    n: usize,
-    kinds: &mut [u8; Pattern::MAX_PARTS],
-    places: &mut [u16; 64],
-) -> usize
+fn number_leaves(codes: &Codes, n: usize, kinds: &mut Kinds, places: &mut [u16; 64]) -> usize
     requires { ⌜ (n ≤ maxParts) × (n ≤ length (now codes)) × (length (now kinds) ≡ maxParts) × (length (now places) ≡ 64) ⌝ }
     ensures { λ r. ⌜ Numbered (take n (now (codes .entry))) (take n (now (kinds .exit))) (now (places .exit)) r ⌝ }
 {
@@ -115,7 +111,7 @@ fn number_leaves(
 }
 
 // The size of the left one of two parts: it ends before the right one, which ends at the place m.
-fn left_size(m: usize, sizes: &[u16; Pattern::MAX_PARTS]) -> u16
+fn left_size(m: usize, sizes: &Sizes) -> u16
     requires { ⌜ m < maxParts ⌝ }
     ensures { λ r. ⌜ r ≡ leftSize (now (sizes .entry)) m ⌝ }
 {
@@ -144,7 +140,7 @@ fn size_of(kind: u8, a: u16, b: u16) -> u16
 }
 
 // The second pass, at the place i. What stands before the first place counts as no part.
-fn size_at(kind: u8, i: usize, sizes: &[u16; Pattern::MAX_PARTS]) -> u16
+fn size_at(kind: u8, i: usize, sizes: &Sizes) -> u16
     requires { ⌜ (i < maxParts) × Small (now sizes) i ⌝ }
     ensures { λ r. ⌜ r ≡ sizeAt kind (now (sizes .entry)) i ⌝ }
 {
@@ -156,7 +152,7 @@ fn size_at(kind: u8, i: usize, sizes: &[u16; Pattern::MAX_PARTS]) -> u16
 }
 
 // The size of the part that ends at each of the first n places.
-fn fill_sizes(kinds: &[u8; Pattern::MAX_PARTS], n: usize, sizes: &mut [u16; Pattern::MAX_PARTS])
+fn fill_sizes(kinds: &Kinds, n: usize, sizes: &mut Sizes)
     requires { ⌜ (n ≤ maxParts) × (length (now sizes) ≡ maxParts) ⌝ }
     ensures { λ _. ⌜ Sized (now (kinds .entry)) n (now (sizes .exit)) ⌝ }
 {
@@ -243,7 +239,7 @@ fn masks_of(s: &[u8], places: &[u16; 64], n: usize) -> [u64; 256]
 }
 
 // How many codes there are: no more than the array has.
-fn within(codes: &[u16; Pattern::MAX_PARTS], len: usize) -> usize
+fn within(codes: &Codes, len: usize) -> usize
     ensures { λ r. ⌜ (r ≤ maxParts) × (r ≡ min len (length (now (codes .entry)))) ⌝ }
 {
     let all = &codes[..];
@@ -251,7 +247,7 @@ fn within(codes: &[u16; Pattern::MAX_PARTS], len: usize) -> usize
 }
 
 // The pattern whose codes for the text s are the first len ones: its leaves are numbered from 0, left to right.
-pub fn finish(s: &[u8], codes: &[u16; Pattern::MAX_PARTS], len: usize) -> Pattern
+pub fn finish(s: &[u8], codes: &Codes, len: usize) -> Pattern
     ensures finished { λ r. ⌜ Finished (now (s .entry)) (take len (now (codes .entry))) r ⌝ }
 {
     let n = within(codes, len);

@@ -18,6 +18,7 @@ use Rattle.follow.specs.Outcomes.{listed, Good, Lists}
 use Rattle.follow.specs.Parts.{into, intoAfter, Collects, Stands}
 use Rattle.follow.proofs.Splices.{after-empty, after-leaf, after-other, after-seq, after-alt, after-star}
 use Rattle.follow.proofs.Parts.{kind-leaf, part-at, by-last}
+use Rattle.follow.proofs.Begins.{lastKind}
 
 -- Nothing follows a leaf in a part that does not have it.
 absent-parts : (masks : List ℕ) (p k : ℕ) (w x y : Re) → (k ≡ 4 + p → ⊥) → follow w p ≡ [] → follow x p ≡ [] → follow y p ≡ [] → follow (partOf masks (partKind k) w x y) p ≡ []
@@ -56,63 +57,57 @@ absent kinds sizes masks p (suc f) low (suc last) n =
         let h = ltb-false last low e in
         absent-parts masks p (getD kinds last 0) _ _ _ (λ k. n (last, h, omega arith, k)) w (x h) (y h)
 
-module _ (kinds sizes : List ℕ) (low end p : ℕ) (rest out : Outcomes) where
-  abbrev Follows : Outcomes → Type 0
-  Follows r = Collects (intoAfter p) kinds sizes low end rest out r
-
+module _ {kinds sizes : List ℕ} {low end : ℕ} (p : ℕ) {rest out : Outcomes} where
   -- A part without the leaf adds nothing.
-  pub after-absent : (Stands kinds low end (4 + p) → ⊥) → Good out → Follows out
+  pub after-absent : (Stands kinds low end (4 + p) → ⊥) → Good out → Collects (intoAfter p) kinds sizes low end rest out out
   after-absent n g = record { good = g; are = λ masks f l. rw (absent kinds sizes masks p f low end n) }
 
   module _ (h : low < end) where
-    abbrev kind : ℕ
-    kind = getD kinds (end - 1) 0
-
-    pub after-here : (r : Outcomes) → p < 64 → kind ≡ 4 + p → Lists r (gather (listed out) (listed rest)) → Follows r
-    after-here r k e l =
-        let d : kind - 4 ≡ p = omega arith in
+    pub after-here : {r : Outcomes} → p < 64 → lastKind kinds end ≡ 4 + p → Lists r (gather (listed out) (listed rest)) → Collects (intoAfter p) kinds sizes low end rest out r
+    after-here {r} k e l =
+        let d : lastKind kinds end - 4 ≡ p = omega arith in
         by-last (intoAfter p) kinds sizes low end rest out r h (l .good) λ masks f g.
-        rw (kind-leaf masks kind _ _ _ (omega arith), d, lt-ltb p 64 k) (l .are ∙ sym (after-leaf (listed rest) (listed out) p _))
+        rw (kind-leaf masks (lastKind kinds end) _ _ _ (omega arith), d, lt-ltb p 64 k) (l .are ∙ sym (after-leaf (listed rest) (listed out) p _))
 
-    pub after-elsewhere : 3 < kind → (kind ≡ 4 + p → ⊥) → Good out → Follows out
+    pub after-elsewhere : 3 < lastKind kinds end → (lastKind kinds end ≡ 4 + p → ⊥) → Good out → Collects (intoAfter p) kinds sizes low end rest out out
     after-elsewhere k n g =
         by-last (intoAfter p) kinds sizes low end rest out out h g λ masks f l.
-        rw (kind-leaf masks kind _ _ _ k) (go _ (ltb (kind - 4) 64))
+        rw (kind-leaf masks (lastKind kinds end) _ _ _ k) (go _ (ltb (lastKind kinds end - 4) 64))
       where
-        go : (s : ℕ → Bool) (c : Bool) → listed out ≡ intoAfter p (listed rest) (listed out) (cond c (leaf (kind - 4) s) empty)
-        go s true = sym (after-other (listed rest) (listed out) p (kind - 4) _ (λ e. n (omega arith)))
+        go : (s : ℕ → Bool) (c : Bool) → listed out ≡ intoAfter p (listed rest) (listed out) (cond c (leaf (lastKind kinds end - 4) s) empty)
+        go s true = sym (after-other (listed rest) (listed out) p (lastKind kinds end - 4) _ (λ e. n (omega arith)))
         go s false = sym (after-empty (listed rest) (listed out) p)
 
-    pub after-nothing : kind ≡ 0 → Good out → Follows out
+    pub after-nothing : lastKind kinds end ≡ 0 → Good out → Collects (intoAfter p) kinds sizes low end rest out out
     after-nothing e g = by-last (intoAfter p) kinds sizes low end rest out out h g λ masks f l. rw e (sym (after-empty (listed rest) (listed out) p))
 
-    pub after-again : (n a r : Outcomes) → kind ≡ 3 → Lists n [] → Collects into kinds sizes low end rest n a → Collects (intoAfter p) kinds sizes low (end - 1) a out r → Follows r
-    after-again n a r e blank again turn =
+    pub after-again : {n a r : Outcomes} → lastKind kinds end ≡ 3 → Lists n [] → Collects into kinds sizes low end rest n a → Collects (intoAfter p) kinds sizes low (end - 1) a out r → Collects (intoAfter p) kinds sizes low end rest out r
+    after-again {n} {a} {r} e blank again turn =
         by-last (intoAfter p) kinds sizes low end rest out r h (turn .good) λ masks f g.
         let x = part f kinds sizes masks low (end - 1) in
         let whole : listed a ≡ into (listed rest) [] (star x) =
         again .are masks (suc f) g ∙ ap (λ v. into (listed rest) v (part (suc f) kinds sizes masks low end)) (blank .are) ∙ ap (λ v. into (listed rest) [] v) (rw e at (part-at kinds sizes masks low f end h)) in
         rw e (turn .are masks f (omega arith) ∙ ap (λ v. intoAfter p v (listed out) x) whole ∙ sym (after-star (listed rest) (listed out) p x))
 
-    module _ (m : ℕ) (at : m ≡ middle sizes low (end - 1)) where
-      pub after-both : (y r : Outcomes) → kind ≡ 2 → Collects (intoAfter p) kinds sizes low m rest out y → Collects (intoAfter p) kinds sizes m (end - 1) rest y r → Follows r
-      after-both y r e left right =
+    module _ {m : ℕ} (at : m ≡ middle sizes low (end - 1)) where
+      pub after-both : {y r : Outcomes} → lastKind kinds end ≡ 2 → Collects (intoAfter p) kinds sizes low m rest out y → Collects (intoAfter p) kinds sizes m (end - 1) rest y r → Collects (intoAfter p) kinds sizes low end rest out r
+      after-both {y} {r} e left right =
           by-last (intoAfter p) kinds sizes low end rest out r h (right .good) λ masks f g.
           let x = part f kinds sizes masks low m in
           let z = part f kinds sizes masks m (end - 1) in
           rw (e, ← at) (right .are masks f (omega arith) ∙ ap (λ v. intoAfter p (listed rest) v z) (left .are masks f (omega arith)) ∙ sym (after-alt (listed rest) (listed out) p x z))
 
-      pub after-right : (r : Outcomes) → kind ≡ 1 → (Stands kinds low m (4 + p) → ⊥) → Collects (intoAfter p) kinds sizes m (end - 1) rest out r → Follows r
-      after-right r e n right =
+      pub after-right : {r : Outcomes} → lastKind kinds end ≡ 1 → (Stands kinds low m (4 + p) → ⊥) → Collects (intoAfter p) kinds sizes m (end - 1) rest out r → Collects (intoAfter p) kinds sizes low end rest out r
+      after-right {r} e n right =
           by-last (intoAfter p) kinds sizes low end rest out r h (right .good) λ masks f g.
           let x = part f kinds sizes masks low m in
           let z = part f kinds sizes masks m (end - 1) in
           let none : intoAfter p (into (listed rest) [] z) (listed out) x ≡ listed out = rw (absent kinds sizes masks p f low m n) in
           rw (e, ← at) (right .are masks f (omega arith) ∙ ap (λ v. intoAfter p (listed rest) v z) (sym none) ∙ sym (after-seq (listed rest) (listed out) p x z))
 
-      pub after-left : (n y l r : Outcomes) → kind ≡ 1 → Lists n [] → Collects into kinds sizes m (end - 1) rest n y
-          → Collects (intoAfter p) kinds sizes low m y out l → Collects (intoAfter p) kinds sizes m (end - 1) rest l r → Follows r
-      after-left n y l r e blank next left right =
+      pub after-left : {n y l r : Outcomes} → lastKind kinds end ≡ 1 → Lists n [] → Collects into kinds sizes m (end - 1) rest n y
+          → Collects (intoAfter p) kinds sizes low m y out l → Collects (intoAfter p) kinds sizes m (end - 1) rest l r → Collects (intoAfter p) kinds sizes low end rest out r
+      after-left {n} {y} {l} {r} e blank next left right =
           by-last (intoAfter p) kinds sizes low end rest out r h (right .good) λ masks f g.
           let x = part f kinds sizes masks low m in
           let z = part f kinds sizes masks m (end - 1) in

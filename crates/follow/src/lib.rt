@@ -13,7 +13,9 @@ ghost use Rattle.follow.specs.Rows.{Right};
 ghost use Rattle.follow.specs.Outcomes.{listed, Good, Lists};
 ghost use Rattle.follow.specs.Parts.{into, intoAfter, Collects, Lacks};
 ghost use Rattle.follow.specs.Stores.{places, IsRow, tablesOf, Long, Stored, Filled};
+use arrays::Kinds;
 use arrays::Pattern;
+use arrays::Sizes;
 
 // Row 0 is the start's, row p + 1 the leaf p's; row k begins at 65 k.
 pub struct Tables {
@@ -108,7 +110,7 @@ fn ending() -> Outcomes
 }
 
 // Where the right one of two parts begins, which together stand from low to end.
-fn middle(sizes: &[u16; Pattern::MAX_PARTS], low: usize, end: usize) -> usize
+fn middle(sizes: &Sizes, low: usize, end: usize) -> usize
     requires { ⌜ end ≤ maxParts ⌝ }
     ensures { λ r. ⌜ r ≡ middle (now (sizes .entry)) low end ⌝ }
 {
@@ -124,8 +126,8 @@ fn middle(sizes: &[u16; Pattern::MAX_PARTS], low: usize, end: usize) -> usize
 
 // What the part from low to end can begin with, its end replaced by rest, added to out.
 fn closure<'a>(
-    kinds: &'a [u8; Pattern::MAX_PARTS],
-    sizes: &'a [u16; Pattern::MAX_PARTS],
+    kinds: &'a Kinds,
+    sizes: &'a Sizes,
     low: usize,
     end: usize,
     rest: Outcomes,
@@ -165,7 +167,7 @@ fn closure<'a>(
 }
 
 // Whether no place from low to end has that kind: then a part there has no such leaf.
-fn lacks(kinds: &[u8; Pattern::MAX_PARTS], low: usize, end: usize, kind: u8) -> bool
+fn lacks(kinds: &Kinds, low: usize, end: usize, kind: u8) -> bool
     requires { ⌜ end ≤ maxParts ⌝ }
     ensures { λ r. ⌜ Lacks (now (kinds .entry)) low end kind r ⌝ }
 {
@@ -181,8 +183,8 @@ fn lacks(kinds: &[u8; Pattern::MAX_PARTS], low: usize, end: usize, kind: u8) -> 
 
 // What can follow the leaf p of the part from low to end, the part's end replaced by rest, added to out.
 fn after<'a>(
-    kinds: &'a [u8; Pattern::MAX_PARTS],
-    sizes: &'a [u16; Pattern::MAX_PARTS],
+    kinds: &'a Kinds,
+    sizes: &'a Sizes,
     low: usize,
     end: usize,
     p: u8,
@@ -225,7 +227,7 @@ fn after<'a>(
 }
 
 // How many places there are: none where the array has fewer.
-fn places(kinds: &[u8; Pattern::MAX_PARTS], len: usize) -> usize
+fn places(kinds: &Kinds, len: usize) -> usize
     ensures { λ r. ⌜ (r ≤ maxParts) × (r ≡ places (now (kinds .entry)) len) ⌝ }
 {
     if len <= words::length_of(kinds) {
@@ -236,12 +238,7 @@ fn places(kinds: &[u8; Pattern::MAX_PARTS], len: usize) -> usize
 }
 
 // Row k: the start's, or that of the leaf k - 1.
-fn row_of<'a>(
-    kinds: &'a [u8; Pattern::MAX_PARTS],
-    sizes: &'a [u16; Pattern::MAX_PARTS],
-    end: usize,
-    k: u8,
-) -> Outcomes
+fn row_of<'a>(kinds: &'a Kinds, sizes: &'a Sizes, end: usize, k: u8) -> Outcomes
     requires { ⌜ (end ≤ maxParts) × (k ≤ 64) ⌝ }
     ensures { λ r. ⌜ IsRow (now (kinds .entry)) (now (sizes .entry)) end k r ⌝ }
 {
@@ -290,8 +287,8 @@ fn store(
 
 // Each row in turn.
 fn fill<'a>(
-    kinds: &'a [u8; Pattern::MAX_PARTS],
-    sizes: &'a [u16; Pattern::MAX_PARTS],
+    kinds: &'a Kinds,
+    sizes: &'a Sizes,
     end: usize,
     rows: &mut [u8; 4225],
     lens: &mut [u8; 65],

@@ -10,6 +10,7 @@ ghost use Rattle.grammar.specs.Code.Codes.{emptyKind, sequenceKind, firstLeaf};
 ghost use Rattle.reader.specs.Steps.{isSpecial, tooHeavy, loadOf, Begun, Ready, AtomAt, AlternationRead, SequenceRead, AtomRead, RepeatRead, AddedIf, answerBy};
 ghost use Rattle.reader.specs.Reading.{ReadRight};
 ghost use Rattle.tokens.specs.Held.{Added};
+use arrays::Codes;
 use arrays::Pattern;
 use scanner::Class;
 use scanner::Count;
@@ -37,6 +38,9 @@ pub struct Step {
     pub part: Part,
     pub len: usize,
 }
+
+// The byte that begins a count.
+const BRACE: u8 = b'{';
 
 // Stands for any weight above the limit.
 const TOO_HEAVY: usize = Pattern::MAX_WEIGHT + 1;
@@ -93,7 +97,7 @@ fn load(times: usize, weight: usize) -> usize
 }
 
 // An empty sequence is a part of its own.
-fn push_if_empty(a: &mut [u16; Pattern::MAX_PARTS], len: usize, w: usize) -> usize
+fn push_if_empty(a: &mut Codes, len: usize, w: usize) -> usize
     ensures { λ r. ⌜ AddedIf (w ≡ 0) (now (a .entry)) len emptyKind (now (a .exit)) r ⌝ }
 {
     if w == 0 {
@@ -104,7 +108,7 @@ fn push_if_empty(a: &mut [u16; Pattern::MAX_PARTS], len: usize, w: usize) -> usi
 }
 
 // A sequence goes on after its part.
-fn push_if_more(a: &mut [u16; Pattern::MAX_PARTS], len: usize, w: usize) -> usize
+fn push_if_more(a: &mut Codes, len: usize, w: usize) -> usize
     ensures { λ r. ⌜ AddedIf (w ≢ 0) (now (a .entry)) len sequenceKind (now (a .exit)) r ⌝ }
 {
     if w == 0 {
@@ -115,14 +119,7 @@ fn push_if_more(a: &mut [u16; Pattern::MAX_PARTS], len: usize, w: usize) -> usiz
 }
 
 // The count after an atom that weighs `weight` and whose codes begin at `from`.
-fn counted(
-    s: &[u8],
-    at: usize,
-    weight: usize,
-    a: &mut [u16; Pattern::MAX_PARTS],
-    len: usize,
-    from: usize,
-) -> Step
+fn counted(s: &[u8], at: usize, weight: usize, a: &mut Codes, len: usize, from: usize) -> Step
     requires { ⌜ Ready (now s) at × (at < length (now s)) × (getD (now s) at 0 ≡ 123) × (weight ≤ tooHeavy) ⌝ }
     ensures { λ r. ⌜ RepeatRead (now (s .entry)) at weight (now (a .entry)) len from (now (a .exit)) (r .len) (r .part) ⌝ }
 {
@@ -145,14 +142,7 @@ fn counted(
 }
 
 // The repeat after an atom, or none.
-fn repeat(
-    s: &[u8],
-    at: usize,
-    weight: usize,
-    a: &mut [u16; Pattern::MAX_PARTS],
-    len: usize,
-    from: usize,
-) -> Step
+fn repeat(s: &[u8], at: usize, weight: usize, a: &mut Codes, len: usize, from: usize) -> Step
     requires { ⌜ Ready (now s) at × (weight ≤ tooHeavy) ⌝ }
     ensures { λ r. ⌜ RepeatRead (now (s .entry)) at weight (now (a .entry)) len from (now (a .exit)) (r .len) (r .part) ⌝ }
 {
@@ -172,14 +162,14 @@ fn repeat(
         let n = tokens::between(a, len, from, 0, 1);
         return found(at + 1, weight, n);
     }
-    if b == b'{' {
+    if b == BRACE {
         return counted(s, at, weight, a, len, from);
     }
     found(at, weight, len)
 }
 
 // A leaf's code is its place after the kinds.
-fn push_leaf(a: &mut [u16; Pattern::MAX_PARTS], len: usize, at: usize) -> usize
+fn push_leaf(a: &mut Codes, len: usize, at: usize) -> usize
     requires { ⌜ at ≤ maxBytes ⌝ }
     ensures { λ r. ⌜ Added (now (a .entry)) len ((firstLeaf + at) ∷ []) (now (a .exit)) r ⌝ }
 {
@@ -188,7 +178,7 @@ fn push_leaf(a: &mut [u16; Pattern::MAX_PARTS], len: usize, at: usize) -> usize
 }
 
 // An escaped byte.
-fn escaped(s: &[u8], at: usize, depth: usize, a: &mut [u16; Pattern::MAX_PARTS], len: usize) -> Step
+fn escaped(s: &[u8], at: usize, depth: usize, a: &mut Codes, len: usize) -> Step
     requires { ⌜ Begun (now s) at depth × (at < length (now s)) × (getD (now s) at 0 ≡ 92) ⌝ }
     ensures { λ r. ⌜ AtomRead (now (s .entry)) at depth (now (a .entry)) len (now (a .exit)) (r .len) (r .part) ⌝ }
 {
@@ -203,13 +193,7 @@ fn escaped(s: &[u8], at: usize, depth: usize, a: &mut [u16; Pattern::MAX_PARTS],
 }
 
 // A class.
-fn class_atom(
-    s: &[u8],
-    at: usize,
-    depth: usize,
-    a: &mut [u16; Pattern::MAX_PARTS],
-    len: usize,
-) -> Step
+fn class_atom(s: &[u8], at: usize, depth: usize, a: &mut Codes, len: usize) -> Step
     requires { ⌜ Begun (now s) at depth × (at < length (now s)) × (getD (now s) at 0 ≡ 91) ⌝ }
     ensures { λ r. ⌜ AtomRead (now (s .entry)) at depth (now (a .entry)) len (now (a .exit)) (r .len) (r .part) ⌝ }
 {
@@ -222,7 +206,7 @@ fn class_atom(
 }
 
 // An atom that is no group.
-fn leaf(s: &[u8], at: usize, depth: usize, a: &mut [u16; Pattern::MAX_PARTS], len: usize) -> Step
+fn leaf(s: &[u8], at: usize, depth: usize, a: &mut Codes, len: usize) -> Step
     requires { ⌜ Begun (now s) at depth × AtomAt (now s) at × (getD (now s) at 0 ≢ 40) ⌝ }
     ensures { λ r. ⌜ AtomRead (now (s .entry)) at depth (now (a .entry)) len (now (a .exit)) (r .len) (r .part) ⌝ }
 {
@@ -244,13 +228,7 @@ fn leaf(s: &[u8], at: usize, depth: usize, a: &mut [u16; Pattern::MAX_PARTS], le
     found(at + 1, 1, n)
 }
 
-fn alternation(
-    s: &[u8],
-    at: usize,
-    depth: usize,
-    a: &mut [u16; Pattern::MAX_PARTS],
-    len: usize,
-) -> Step
+fn alternation(s: &[u8], at: usize, depth: usize, a: &mut Codes, len: usize) -> Step
     requires { ⌜ Begun (now s) at depth ⌝ }
     ensures { λ r. ⌜ AlternationRead (now (s .entry)) at depth (now (a .entry)) len (now (a .exit)) (r .len) (r .part) ⌝ }
 {
@@ -281,13 +259,7 @@ fn alternation(
     found(end, own, d2)
 }
 
-fn sequence(
-    s: &[u8],
-    at: usize,
-    depth: usize,
-    a: &mut [u16; Pattern::MAX_PARTS],
-    len: usize,
-) -> Step
+fn sequence(s: &[u8], at: usize, depth: usize, a: &mut Codes, len: usize) -> Step
     requires { ⌜ Begun (now s) at depth ⌝ }
     ensures { λ r. ⌜ SequenceRead (now (s .entry)) at depth (now (a .entry)) len (now (a .exit)) (r .len) (r .part) ⌝ }
 {
@@ -331,7 +303,7 @@ fn sequence(
     found(last, plus(v, u), d4)
 }
 
-fn atom(s: &[u8], at: usize, depth: usize, a: &mut [u16; Pattern::MAX_PARTS], len: usize) -> Step
+fn atom(s: &[u8], at: usize, depth: usize, a: &mut Codes, len: usize) -> Step
     requires { ⌜ Begun (now s) at depth × AtomAt (now s) at ⌝ }
     ensures { λ r. ⌜ AtomRead (now (s .entry)) at depth (now (a .entry)) len (now (a .exit)) (r .len) (r .part) ⌝ }
 {

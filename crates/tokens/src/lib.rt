@@ -7,6 +7,7 @@ ghost use lib.ListN.{replicate};
 ghost use Rattle.grammar.specs.Code.Codes.{starKind, exactlyCodes, atLeastCodes, closeCodes, betweenCodes};
 ghost use Rattle.tokens.specs.Held.{Added, Rewritten};
 ghost use Rattle.tokens.specs.Copied.{Copied, again};
+use arrays::Codes;
 use arrays::Pattern;
 
 // The codes of parts that are no leaves: their kinds.
@@ -19,7 +20,7 @@ pub const ALTERNATION: u16 = Pattern::ALTERNATION as u16;
 pub const STAR: u16 = Pattern::STAR as u16;
 
 // One more code.
-pub fn push(a: &mut [u16; Pattern::MAX_PARTS], len: usize, code: u16) -> usize
+pub fn push(a: &mut Codes, len: usize, code: u16) -> usize
     ensures added { λ r. ⌜ Added (now (a .entry)) len (code ∷ []) (now (a .exit)) r ⌝ }
 {
     if len < Pattern::MAX_PARTS {
@@ -30,7 +31,7 @@ pub fn push(a: &mut [u16; Pattern::MAX_PARTS], len: usize, code: u16) -> usize
 }
 
 // One code n times.
-fn pushes(a: &mut [u16; Pattern::MAX_PARTS], len: usize, code: u16, n: usize) -> usize
+fn pushes(a: &mut Codes, len: usize, code: u16, n: usize) -> usize
     ensures added { λ r. ⌜ Added (now (a .entry)) len (replicate n code) (now (a .exit)) r ⌝ }
 {
     let mut end = len;
@@ -43,7 +44,7 @@ fn pushes(a: &mut [u16; Pattern::MAX_PARTS], len: usize, code: u16, n: usize) ->
 }
 
 // The ends of n optional copies, from the inside out: the copy in sequence with what is inside it, or the empty sequence.
-fn closes(a: &mut [u16; Pattern::MAX_PARTS], len: usize, n: usize) -> usize
+fn closes(a: &mut Codes, len: usize, n: usize) -> usize
     ensures added { λ r. ⌜ Added (now (a .entry)) len (closeCodes n) (now (a .exit)) r ⌝ }
 {
     let mut end = len;
@@ -58,7 +59,7 @@ fn closes(a: &mut [u16; Pattern::MAX_PARTS], len: usize, n: usize) -> usize
 }
 
 // The `size` codes from `from` on, once more. A full array takes none, so that many copies cost no more than fit.
-fn copy(a: &mut [u16; Pattern::MAX_PARTS], len: usize, from: usize, size: usize) -> usize
+fn copy(a: &mut Codes, len: usize, from: usize, size: usize) -> usize
     requires { ⌜ from + size ≤ len ⌝ }
     ensures copied { λ r. ⌜ Copied (now (a .entry)) len from size (λ k. k) (now (a .exit)) r ⌝ }
 {
@@ -77,7 +78,7 @@ fn copy(a: &mut [u16; Pattern::MAX_PARTS], len: usize, from: usize, size: usize)
 }
 
 // The part from `from` on, n times more.
-fn copies(a: &mut [u16; Pattern::MAX_PARTS], len: usize, from: usize, n: usize) -> usize
+fn copies(a: &mut Codes, len: usize, from: usize, n: usize) -> usize
     ensures written { λ r. ⌜ Rewritten (now (a .entry)) len from (again n) (now (a .exit)) r ⌝ }
 {
     if len < from {
@@ -94,14 +95,14 @@ fn copies(a: &mut [u16; Pattern::MAX_PARTS], len: usize, from: usize, n: usize) 
 }
 
 // `*`: the star of the part.
-pub fn star(a: &mut [u16; Pattern::MAX_PARTS], len: usize, from: usize) -> usize
+pub fn star(a: &mut Codes, len: usize, from: usize) -> usize
     ensures written { λ r. ⌜ Rewritten (now (a .entry)) len from (λ k. k ++ (starKind ∷ [])) (now (a .exit)) r ⌝ }
 {
     push(a, len, STAR)
 }
 
 // `{times}`: the copies, then the sequences that join them. No copy is the empty sequence, and the part is cut off.
-pub fn exactly(a: &mut [u16; Pattern::MAX_PARTS], len: usize, from: usize, times: usize) -> usize
+pub fn exactly(a: &mut Codes, len: usize, from: usize, times: usize) -> usize
     ensures written { λ r. ⌜ Rewritten (now (a .entry)) len from (exactlyCodes times) (now (a .exit)) r ⌝ }
 {
     if times == 0 {
@@ -116,7 +117,7 @@ pub fn exactly(a: &mut [u16; Pattern::MAX_PARTS], len: usize, from: usize, times
 }
 
 // `{times,}`: the copies, then the star of one more.
-pub fn at_least(a: &mut [u16; Pattern::MAX_PARTS], len: usize, from: usize, times: usize) -> usize
+pub fn at_least(a: &mut Codes, len: usize, from: usize, times: usize) -> usize
     ensures written { λ r. ⌜ Rewritten (now (a .entry)) len from (atLeastCodes times) (now (a .exit)) r ⌝ }
 {
     let copied = copies(a, len, from, times);
@@ -125,13 +126,7 @@ pub fn at_least(a: &mut [u16; Pattern::MAX_PARTS], len: usize, from: usize, time
 }
 
 // `{least,most}`: the copies that must be, then the optional ones, each inside the one before.
-pub fn between(
-    a: &mut [u16; Pattern::MAX_PARTS],
-    len: usize,
-    from: usize,
-    least: usize,
-    most: usize,
-) -> usize
+pub fn between(a: &mut Codes, len: usize, from: usize, least: usize, most: usize) -> usize
     ensures written { λ r. ⌜ Rewritten (now (a .entry)) len from (betweenCodes least (most - least)) (now (a .exit)) r ⌝ }
 {
     if most <= least {

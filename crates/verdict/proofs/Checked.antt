@@ -92,7 +92,7 @@ checked-found {p} {t} {v} (by-records {a = a} h (up-to-witness L w c)) =
           ])
     ]
 
--- Something is owed for all-records input,
+-- Something is owed for every input,
 pub checked-some : (p t v : List ℕ) → (s : Whole) × Checked p t v s
 checked-some p t v =
     either

@@ -22,7 +22,7 @@ use Rattle.verdict.proofs.Tables.{length-bits, length-sixBits, record-5
 use Rattle.verdict.proofs.StayBytes.{record-two, drop-below}
 use Rattle.verdict.proofs.Packed.{number-one, length-set}
 
--- Bits of one fromBits are one list.
+-- Bits of one number are one list.
 
 same-bits : (l m : List ℕ) (a b : ℕ) → Below 2 l → Below 2 m → length l ≡ length m → fromBits a l ≡ fromBits b m → (a ≡ b) × (l ≡ m)
 same-bits [] [] a b h g s e = (e, refl)

@@ -30,7 +30,7 @@ mod-split d n =
     ap (λ x. 2 ^ d * x) (sym e3) ∙ mul-add (2 ^ d) (q % 2) (2 * (q / 2)) ∙ ap (λ x. 2 ^ d * (q % 2) + x) (sym (mul-assoc (2 ^ d) 2 (q / 2)) ∙ ap (λ x. x * (q / 2)) (sym twice)) in
     digits-same (2 ^ suc d) (n % 2 ^ suc d) (n / 2 ^ suc d) (q / 2) (n % 2 ^ d + 2 ^ d * (q % 2)) low small (omega arith) .0
 
--- Bits as a fromBits again.
+-- Bits as a number again.
 pub number-bits : (d n m : ℕ) (l : List ℕ) → fromBits m (bits d n ++ l) ≡ fromBits (m * 2 ^ d + n % 2 ^ d) l
 unfolding bits
 number-bits zero n m l = ap (λ x. fromBits x l) (let e : n % 1 < 1 = mod-lt n {m = 1} (omega arith) in rw (pow-zero, mul-one) (omega arith))

@@ -114,7 +114,7 @@ same-refl s = rw (sameList-refl (s .order), sameBool-refl (s .first), sameList-r
 pub same-no : (s t : Standing) → s ≢ t → same s t ≡ false
 same-no s t h = not-true (same s t) λ c. h (same-eq s t c)
 
--- The fromBits of a record.
+-- The number of a record.
 module _ (r : Re) where
   pub number-is : (L : List (List ℕ)) (s : Standing) (j : ℕ) → j < length L → standing r (at L j) ≡ s → ((k : ℕ) → k < j → standing r (at L k) ≢ s) → numberOf r L s ≡ j
   unfolding numberOf
@@ -126,7 +126,7 @@ module _ (r : Re) where
   pub number-at : {L : List (List ℕ)} → Records r L → (s : Standing) (j : ℕ) → j < length L → standing r (at L j) ≡ s → numberOf r L s ≡ j
   number-at {L} a s j l e = number-is L s j l e λ k h c. a .fresh k j h l (c ∙ sym e)
 
-  -- A line added at the end changes no fromBits,
+  -- A line added at the end changes no number,
   pub number-add : (L : List (List ℕ)) (w : List ℕ) (s : Standing) (j : ℕ) → j < length L → standing r (at L j) ≡ s → numberOf r (L ++ (w ∷ [])) s ≡ numberOf r L s
   unfolding numberOf
   number-add [] w s j l e = absurd (omega arith)

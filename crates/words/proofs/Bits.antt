@@ -15,17 +15,19 @@ use Rattle.words.specs.Sets.{hasBit, withLeaf, withLeafIf}
 or-digit : (x y q : ℕ) → bitOr x y / 2 ^ q % 2 ≡ max (x / 2 ^ q % 2) (y / 2 ^ q % 2)
 or-digit x y q = rw (or-shr x y q) (omega (arith, or-step (x / 2 ^ q) (y / 2 ^ q)))
 
-max-one : (a b : ℕ) → a < 2 → b < 2 → eqb (max a b) 1 ≡ (eqb a 1 || eqb b 1)
-max-one zero zero h k = refl
-max-one zero (suc zero) h k = refl
-max-one zero (suc (suc b)) h k = absurd (omega arith)
-max-one (suc zero) zero h k = refl
-max-one (suc zero) (suc zero) h k = refl
-max-one (suc zero) (suc (suc b)) h k = absurd (omega arith)
-max-one (suc (suc a)) b h k = absurd (omega arith)
+-- An operation on two binary digits, and its test: by four cases.
+by-digits : (f : ℕ → ℕ → ℕ) (g : Bool → Bool → Bool) → eqb (f 0 0) 1 ≡ g false false → eqb (f 0 1) 1 ≡ g false true → eqb (f 1 0) 1 ≡ g true false → eqb (f 1 1) 1 ≡ g true true
+    → (a b : ℕ) → a < 2 → b < 2 → eqb (f a b) 1 ≡ g (eqb a 1) (eqb b 1)
+by-digits f g p q r s zero zero h k = p
+by-digits f g p q r s zero (suc zero) h k = q
+by-digits f g p q r s (suc zero) zero h k = r
+by-digits f g p q r s (suc zero) (suc zero) h k = s
+by-digits f g p q r s zero (suc (suc b)) h k = absurd (omega arith)
+by-digits f g p q r s (suc zero) (suc (suc b)) h k = absurd (omega arith)
+by-digits f g p q r s (suc (suc a)) b h k = absurd (omega arith)
 
 pub or-bit : (x y q : ℕ) → hasBit (bitOr x y) q ≡ (hasBit x q || hasBit y q)
-or-bit x y q = rw (or-digit x y q) (max-one (x / 2 ^ q % 2) (y / 2 ^ q % 2) (mod-lt _ (omega arith)) (mod-lt _ (omega arith)))
+or-bit x y q = rw (or-digit x y q) (by-digits max _||_ refl refl refl refl (x / 2 ^ q % 2) (y / 2 ^ q % 2) (mod-lt _ (omega arith)) (mod-lt _ (omega arith)))
 
 pub no-bit : (q : ℕ) → hasBit 0 q ≡ false
 no-bit q = rw (zero-div (2 ^ q))
@@ -77,17 +79,8 @@ with-if-bit false x p q h = sym (or-false (hasBit x q))
 and-digit : (x y q : ℕ) → bitAnd x y / 2 ^ q % 2 ≡ min (x / 2 ^ q % 2) (y / 2 ^ q % 2)
 and-digit x y q = rw (and-shr x y q) (omega (arith, and-step (x / 2 ^ q) (y / 2 ^ q)))
 
-min-one : (a b : ℕ) → a < 2 → b < 2 → eqb (min a b) 1 ≡ (eqb a 1 && eqb b 1)
-min-one zero zero h k = refl
-min-one zero (suc zero) h k = refl
-min-one zero (suc (suc b)) h k = absurd (omega arith)
-min-one (suc zero) zero h k = refl
-min-one (suc zero) (suc zero) h k = refl
-min-one (suc zero) (suc (suc b)) h k = absurd (omega arith)
-min-one (suc (suc a)) b h k = absurd (omega arith)
-
 pub and-bit : (x y q : ℕ) → hasBit (bitAnd x y) q ≡ (hasBit x q && hasBit y q)
-and-bit x y q = rw (and-digit x y q) (min-one (x / 2 ^ q % 2) (y / 2 ^ q % 2) (mod-lt _ (omega arith)) (mod-lt _ (omega arith)))
+and-bit x y q = rw (and-digit x y q) (by-digits min _&&_ refl refl refl refl (x / 2 ^ q % 2) (y / 2 ^ q % 2) (mod-lt _ (omega arith)) (mod-lt _ (omega arith)))
 
 -- The bits of a half, and the last bit.
 pub half-bit : (z q : ℕ) → hasBit (z / 2) q ≡ hasBit z (suc q)

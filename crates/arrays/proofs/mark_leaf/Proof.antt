@@ -13,9 +13,11 @@ returns c =
 
 returns-2 : tie.Need-returns-2
 returns-2 c =
-    let a = c .before .before .before .before .before .before .before .before .before .args in
-    let all = rw (c .before .before .before .wide-u16 .ensures .0) at (c .before .mark-all .ensures) in
-    turn-new (a .s .now) (a .places .now) (a .n) (a .done) (a .p) (c .before .before .before .before .leaves-at .result) (c .union .result) (a .masks .now) _ (c .before .before .before .before .before .before .before .before .before .pre .1) (c .before .before .before .before .leaves-at .ensures) all (c .union .ensures)
+    let c3 = c .before .before .before in
+    let c9 = c3 .before .before .before .before .before .before in
+    let a = c9 .args in
+    let all = rw (c3 .wide-u16 .ensures .0) at (c .before .mark-all .ensures) in
+    turn-new (a .s .now) (a .places .now) (a .n) (a .done) (a .p) (c3 .before .leaves-at .result) (c .union .result) (a .masks .now) _ (c9 .pre .1) (c3 .before .leaves-at .ensures) all (c .union .ensures)
 
 pub mark-leaf-spec : {M : Type 1} → statement M
 mark-leaf-spec =

@@ -9,7 +9,10 @@ decide-requires : tie.Need-decide-requires
 decide-requires c κs = accepted-sound (c .before .before .before .before .before .read .ensures) (c .before .before .before .enum-told .given .1)
 
 returns : tie.Need-returns
-returns c = checks-accepted (c .before .before .before .before .before .before .before .before .before .before .read .ensures) (c .before .before .before .before .decide .result) (c .before .before .before .before .before .before .before .before .enum-told .given .1) (c .before .before .before .before .decide .ensures)
+returns c =
+    let c4 = c .before .before .before .before in
+    let c8 = c4 .before .before .before .before in
+    checks-accepted (c8 .before .before .read .ensures) (c4 .decide .result) (c8 .enum-told .given .1) (c4 .decide .ensures)
 
 returns-2 : tie.Need-returns-2
 returns-2 c = checks-refused (c .before .before .before .read .ensures) (c .before .answer .given .1)

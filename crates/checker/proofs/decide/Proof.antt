@@ -19,9 +19,10 @@ returns c =
 
 returns-2 : tie.Need-returns-2
 returns-2 c =
-    let s = c .before .before .before .before .before .before .before .before .before .before in
+    let c6 = c .before .before .before .before .before .before in
+    let s = c6 .before .before .before .before in
     let x = s .before .before .before .before .before .before .before .before .before .before .before in
-    decides-witness (x .before .before .before .before .pre) (x .tables-of .ensures) (s .search .ensures) (c .before .before .before .before .before .before .found2 .given .1) (c .before .before .hand-over .ensures)
+    decides-witness (x .before .before .before .before .pre) (x .tables-of .ensures) (s .search .ensures) (c6 .found2 .given .1) (c .before .before .hand-over .ensures)
 
 returns-3 : tie.Need-returns-3
 returns-3 c =

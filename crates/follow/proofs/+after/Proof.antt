@@ -35,11 +35,10 @@ after-returns : (t : ℕ) → after-lts.Need-returns (callees-after t) (after-at
 after-returns t c =
     let s = c .before .before in
     let a = s .args in
-    after-absent (a .kinds .now) (a .sizes .now) (a .low) (a .end) (a .p) (a .rest) (a .out) (c .before .lacks .ensures .none (c .if1 .taken)) (s .pre .1 .3)
+    after-absent (a .p) (c .before .lacks .ensures .none (c .if1 .taken)) (s .pre .1 .3)
 
 after-sub-last : (t : ℕ) → after-lts.Need-sub-last (callees-after t) (after-at t) after.Post
 after-sub-last t c =
-    let s = c .before .before in
     let h = some-place (c .before .lacks .ensures) (c .if1 .left) in
     omega (arith, h)
 
@@ -54,91 +53,111 @@ after-returns-2 t c =
     let s = c .before .before .before .before .before in
     let h = some-place (c .before .before .before .before .lacks .ensures) (c .before .before .before .if1 .left) in
     let a = s .args in
-    after-here (a .kinds .now) (a .sizes .now) (a .low) (a .end) (a .p) (a .rest) (a .out) h (c .join .result) (s .pre .1 .1) (c .before .if2 .taken) (c .join .ensures)
+    after-here (a .p) h (s .pre .1 .1) (c .before .if2 .taken) (c .join .ensures)
 
 after-returns-3 : (t : ℕ) → after-lts.Need-returns-3 (callees-after t) (after-at t) after.Post
 after-returns-3 t c =
     let s = c .before .before .before .before .before in
     let h = some-place (c .before .before .before .before .lacks .ensures) (c .before .before .before .if1 .left) in
     let a = s .args in
-    after-elsewhere (a .kinds .now) (a .sizes .now) (a .low) (a .end) (a .p) (a .rest) (a .out) h (c .if3 .taken) (c .before .if2 .left) (s .pre .1 .3)
+    after-elsewhere (a .p) h (c .if3 .taken) (c .before .if2 .left) (s .pre .1 .3)
 
 after-returns-4 : (t : ℕ) → after-lts.Need-returns-4 (callees-after t) (after-at t) after.Post
 after-returns-4 t c =
     let s = c .before .before .before .before .before .before in
     let h = some-place (c .before .before .before .before .before .lacks .ensures) (c .before .before .before .before .if1 .left) in
     let a = s .args in
-    after-nothing (a .kinds .now) (a .sizes .now) (a .low) (a .end) (a .p) (a .rest) (a .out) h (c .if4 .taken) (s .pre .1 .3)
+    after-nothing (a .p) h (c .if4 .taken) (s .pre .1 .3)
 
 after-after-requires : (t : ℕ) → after-lts.Need-after-requires (callees-after t) (after-at t) after.Post
 after-after-requires t c κs =
-    let s = c .before .before .before .before .before .before .before .before .before in
-    let h = some-place (c .before .before .before .before .before .before .before .before .lacks .ensures) (c .before .before .before .before .before .before .before .if1 .left) in
+    let c7 = c .before .before .before .before .before .before .before in
+    let s = c7 .before .before in
+    let h = some-place (c7 .before .lacks .ensures) (c7 .if1 .left) in
     (omega (arith, h, s .pre .0), (omega (arith, h, s .pre .1 .0), s .pre .1 .1, c .closure .ensures .good, s .pre .1 .3))
 
 after-returns-5 : (t : ℕ) → after-lts.Need-returns-5 (callees-after t) (after-at t) after.Post
 after-returns-5 t c =
-    let s = c .before .before .before .before .before .before .before .before .before .before in
-    let h = some-place (c .before .before .before .before .before .before .before .before .before .lacks .ensures) (c .before .before .before .before .before .before .before .before .if1 .left) in
+    let c3 = c .before .before .before in
+    let c8 = c3 .before .before .before .before .before in
+    let s = c8 .before .before in
+    let h = some-place (c8 .before .lacks .ensures) (c8 .if1 .left) in
     let a = s .args in
-    after-again (a .kinds .now) (a .sizes .now) (a .low) (a .end) (a .p) (a .rest) (a .out) h (c .before .before .none .result) (c .before .closure .result) (c .after .result) (c .before .before .before .if5 .taken) (c .before .before .none .ensures) (c .before .closure .ensures) (c .after .ensures)
+    after-again (a .p) h (c3 .if5 .taken) (c .before .before .none .ensures) (c .before .closure .ensures) (c .after .ensures)
 
 after-lacks-requires-2 : (t : ℕ) → after-lts.Need-lacks-requires-2 (callees-after t) (after-at t) after.Post
 after-lacks-requires-2 t c κs =
-    let s = c .before .before .before .before .before .before .before .before .before in
-    let h = some-place (c .before .before .before .before .before .before .before .before .lacks .ensures) (c .before .before .before .before .before .before .before .if1 .left) in
+    let c7 = c .before .before .before .before .before .before .before in
+    let s = c7 .before .before in
+    let h = some-place (c7 .before .lacks .ensures) (c7 .if1 .left) in
     omega (arith, h, s .pre .1 .0, c .before .middle .ensures)
 
 after-after-requires-2 : (t : ℕ) → after-lts.Need-after-requires-2 (callees-after t) (after-at t) after.Post
 after-after-requires-2 t c κs =
-    let s = c .before .before .before .before .before .before .before .before .before .before .before in
-    let h = some-place (c .before .before .before .before .before .before .before .before .before .before .lacks .ensures) (c .before .before .before .before .before .before .before .before .before .if1 .left) in
-    (omega (arith, h, s .pre .0, c .before .before .before .middle .ensures), (omega (arith, h, s .pre .1 .0, c .before .before .before .middle .ensures), s .pre .1 .1, s .pre .1 .2, s .pre .1 .3))
+    let c3 = c .before .before .before in
+    let c9 = c3 .before .before .before .before .before .before in
+    let s = c9 .before .before in
+    let h = some-place (c9 .before .lacks .ensures) (c9 .if1 .left) in
+    (omega (arith, h, s .pre .0, c3 .middle .ensures), (omega (arith, h, s .pre .1 .0, c3 .middle .ensures), s .pre .1 .1, s .pre .1 .2, s .pre .1 .3))
 
 after-returns-6 : (t : ℕ) → after-lts.Need-returns-6 (callees-after t) (after-at t) after.Post
 after-returns-6 t c =
-    let s = c .before .before .before .before .before .before .before .before .before .before .before .before in
-    let h = some-place (c .before .before .before .before .before .before .before .before .before .before .before .lacks .ensures) (c .before .before .before .before .before .before .before .before .before .before .if1 .left) in
+    let c3 = c .before .before .before in
+    let c10 = c3 .before .before .before .before .before .before .before in
+    let s = c10 .before .before in
+    let h = some-place (c10 .before .lacks .ensures) (c10 .if1 .left) in
     let a = s .args in
-    after-right (a .kinds .now) (a .sizes .now) (a .low) (a .end) (a .p) (a .rest) (a .out) h (c .before .before .before .before .middle .result) (c .before .before .before .before .middle .ensures) (c .after2 .result) (c .before .before .before .if6 .taken) (c .before .before .lacks2 .ensures .none (c .before .if7 .taken)) (c .after2 .ensures)
+    after-right (a .p) h (c3 .before .middle .ensures) (c3 .if6 .taken) (c .before .before .lacks2 .ensures .none (c .before .if7 .taken)) (c .after2 .ensures)
 
 after-after-requires-3 : (t : ℕ) → after-lts.Need-after-requires-3 (callees-after t) (after-at t) after.Post
 after-after-requires-3 t c κs =
-    let s = c .before .before .before .before .before .before .before .before .before .before .before .before .before in
-    let h = some-place (c .before .before .before .before .before .before .before .before .before .before .before .before .lacks .ensures) (c .before .before .before .before .before .before .before .before .before .before .before .if1 .left) in
-    (omega (arith, h, s .pre .0, c .before .before .before .before .before .middle .ensures), (omega (arith, h, s .pre .1 .0, c .before .before .before .before .before .middle .ensures), s .pre .1 .1, c .closure2 .ensures .good, s .pre .1 .3))
+    let c5 = c .before .before .before .before .before in
+    let c11 = c5 .before .before .before .before .before .before in
+    let s = c11 .before .before in
+    let h = some-place (c11 .before .lacks .ensures) (c11 .if1 .left) in
+    (omega (arith, h, s .pre .0, c5 .middle .ensures), (omega (arith, h, s .pre .1 .0, c5 .middle .ensures), s .pre .1 .1, c .closure2 .ensures .good, s .pre .1 .3))
 
 after-after-requires-4 : (t : ℕ) → after-lts.Need-after-requires-4 (callees-after t) (after-at t) after.Post
 after-after-requires-4 t c κs =
-    let s = c .before .before .before .before .before .before .before .before .before .before .before .before .before .before in
-    let h = some-place (c .before .before .before .before .before .before .before .before .before .before .before .before .before .lacks .ensures) (c .before .before .before .before .before .before .before .before .before .before .before .before .if1 .left) in
-    (omega (arith, h, s .pre .0, c .before .before .before .before .before .before .middle .ensures), (omega (arith, h, s .pre .1 .0, c .before .before .before .before .before .before .middle .ensures), s .pre .1 .1, s .pre .1 .2, c .after3 .ensures .good))
+    let c6 = c .before .before .before .before .before .before in
+    let c12 = c6 .before .before .before .before .before .before in
+    let s = c12 .before .before in
+    let h = some-place (c12 .before .lacks .ensures) (c12 .if1 .left) in
+    (omega (arith, h, s .pre .0, c6 .middle .ensures), (omega (arith, h, s .pre .1 .0, c6 .middle .ensures), s .pre .1 .1, s .pre .1 .2, c .after3 .ensures .good))
 
 after-returns-7 : (t : ℕ) → after-lts.Need-returns-7 (callees-after t) (after-at t) after.Post
 after-returns-7 t c =
-    let s = c .before .before .before .before .before .before .before .before .before .before .before .before .before .before .before in
-    let h = some-place (c .before .before .before .before .before .before .before .before .before .before .before .before .before .before .lacks .ensures) (c .before .before .before .before .before .before .before .before .before .before .before .before .before .if1 .left) in
+    let c3 = c .before .before .before in
+    let c6 = c3 .before .before .before in
+    let c13 = c6 .before .before .before .before .before .before .before in
+    let s = c13 .before .before in
+    let h = some-place (c13 .before .lacks .ensures) (c13 .if1 .left) in
     let a = s .args in
-    after-left (a .kinds .now) (a .sizes .now) (a .low) (a .end) (a .p) (a .rest) (a .out) h (c .before .before .before .before .before .before .before .middle .result) (c .before .before .before .before .before .before .before .middle .ensures) (c .before .before .before .none2 .result) (c .before .before .closure2 .result) (c .before .after3 .result) (c .after4 .result) (c .before .before .before .before .before .before .if6 .taken) (c .before .before .before .none2 .ensures) (c .before .before .closure2 .ensures) (c .before .after3 .ensures) (c .after4 .ensures)
+    after-left (a .p) h (c6 .before .middle .ensures) (c6 .if6 .taken) (c3 .none2 .ensures) (c .before .before .closure2 .ensures) (c .before .after3 .ensures) (c .after4 .ensures)
 
 after-after-requires-5 : (t : ℕ) → after-lts.Need-after-requires-5 (callees-after t) (after-at t) after.Post
 after-after-requires-5 t c κs =
-    let s = c .before .before .before .before .before .before .before .before .before in
-    let h = some-place (c .before .before .before .before .before .before .before .before .lacks .ensures) (c .before .before .before .before .before .before .before .if1 .left) in
+    let c7 = c .before .before .before .before .before .before .before in
+    let s = c7 .before .before in
+    let h = some-place (c7 .before .lacks .ensures) (c7 .if1 .left) in
     (omega (arith, h, s .pre .0, c .before .middle .ensures), (omega (arith, h, s .pre .1 .0, c .before .middle .ensures), s .pre .1 .1, s .pre .1 .2, s .pre .1 .3))
 
 after-after-requires-6 : (t : ℕ) → after-lts.Need-after-requires-6 (callees-after t) (after-at t) after.Post
 after-after-requires-6 t c κs =
-    let s = c .before .before .before .before .before .before .before .before .before .before in
-    let h = some-place (c .before .before .before .before .before .before .before .before .before .lacks .ensures) (c .before .before .before .before .before .before .before .before .if1 .left) in
+    let c8 = c .before .before .before .before .before .before .before .before in
+    let s = c8 .before .before in
+    let h = some-place (c8 .before .lacks .ensures) (c8 .if1 .left) in
     (omega (arith, h, s .pre .0, c .before .before .middle .ensures), (omega (arith, h, s .pre .1 .0, c .before .before .middle .ensures), s .pre .1 .1, s .pre .1 .2, c .after5 .ensures .good))
 
 after-returns-8 : (t : ℕ) → after-lts.Need-returns-8 (callees-after t) (after-at t) after.Post
 after-returns-8 t c =
-    let s = c .before .before .before .before .before .before .before .before .before .before .before in
-    let h = some-place (c .before .before .before .before .before .before .before .before .before .before .lacks .ensures) (c .before .before .before .before .before .before .before .before .before .if1 .left) in
+    let c3 = c .before .before .before in
+    let c6 = c3 .before .before .before in
+    let c9 = c6 .before .before .before in
+    let s = c9 .before .before in
+    let h = some-place (c9 .before .lacks .ensures) (c9 .if1 .left) in
     let a = s .args in
-    after-both (a .kinds .now) (a .sizes .now) (a .low) (a .end) (a .p) (a .rest) (a .out) h (c .before .before .before .middle .result) (c .before .before .before .middle .ensures) (c .before .after5 .result) (c .after6 .result) (two _ (c .before .before .before .before .before .if4 .left) (c .before .before .before .before .if5 .left) (c .before .before .if6 .left) (c .before .before .before .before .before .before .if3 .left)) (c .before .after5 .ensures) (c .after6 .ensures)
+    after-both (a .p) h (c3 .middle .ensures) (two _ (c3 .before .before .if4 .left) (c3 .before .if5 .left) (c .before .before .if6 .left) (c6 .if3 .left)) (c .before .after5 .ensures) (c .after6 .ensures)
 
 pub +after-spec : {M : Type 1} → statement M
 +after-spec = close μ-after λ t. after-lts.spec (callees-after t) (after-at t)

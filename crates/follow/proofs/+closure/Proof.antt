@@ -31,33 +31,23 @@ callees-closure t = (join-reads.Asked, join-reads.Learnt, add-reads.Asked, add-r
 
 closure-returns : (t : ℕ) → closure-lts.Need-returns (callees-closure t) (closure-at t) closure.Post
 closure-returns t c =
-    let s = c .before .before in
-    let a = s .args in
-    closure-none (a .kinds .now) (a .sizes .now) (a .low) (a .end) (a .rest) (a .out) (c .join .result) (c .before .if1 .taken) (c .join .ensures)
+    closure-none (c .before .if1 .taken) (c .join .ensures)
 
 closure-returns-2 : (t : ℕ) → closure-lts.Need-returns-2 (callees-closure t) (closure-at t) closure.Post
 closure-returns-2 t c =
-    let s = c .before .before .before .before in
-    let a = s .args in
-    closure-empty (a .kinds .now) (a .sizes .now) (a .low) (a .end) (a .rest) (a .out) (c .join2 .result) (omega (arith, c .before .before .before .if1 .left)) (c .before .if2 .taken) (c .join2 .ensures)
+    closure-empty (omega (arith, c .before .before .before .if1 .left)) (c .before .if2 .taken) (c .join2 .ensures)
 
 closure-returns-3 : (t : ℕ) → closure-lts.Need-returns-3 (callees-closure t) (closure-at t) closure.Post
 closure-returns-3 t c =
-    let s = c .before .before .before .before .before in
-    let a = s .args in
-    closure-beyond (a .kinds .now) (a .sizes .now) (a .low) (a .end) (a .rest) (a .out) (c .join3 .result) (omega (arith, c .before .before .before .before .if1 .left)) (c .before .if3 .taken) (c .join3 .ensures)
+    closure-beyond (omega (arith, c .before .before .before .before .if1 .left)) (c .before .if3 .taken) (c .join3 .ensures)
 
 closure-returns-4 : (t : ℕ) → closure-lts.Need-returns-4 (callees-closure t) (closure-at t) closure.Post
 closure-returns-4 t c =
-    let s = c .before .before .before .before .before .before in
-    let a = s .args in
-    closure-leaf (a .kinds .now) (a .sizes .now) (a .low) (a .end) (a .rest) (a .out) (c .add .result) (omega (arith, c .before .before .before .before .before .if1 .left)) (c .before .if4 .taken) (omega (arith, c .before .before .if3 .left)) (c .add .ensures)
+    closure-leaf (omega (arith, c .before .before .before .before .before .if1 .left)) (c .before .if4 .taken) (omega (arith, c .before .before .if3 .left)) (c .add .ensures)
 
 closure-returns-5 : (t : ℕ) → closure-lts.Need-returns-5 (callees-closure t) (closure-at t) closure.Post
 closure-returns-5 t c =
-    let s = c .before .before .before .before .before .before .before .before .before in
-    let a = s .args in
-    closure-star (a .kinds .now) (a .sizes .now) (a .low) (a .end) (a .rest) (a .out) (c .join4 .result) (omega (arith, c .before .before .before .before .before .before .before .before .if1 .left)) (c .before .before .before .none .result) (c .before .closure .result) (c .before .before .if5 .taken) (c .before .before .before .none .ensures) (c .before .closure .ensures) (c .join4 .ensures)
+    closure-star (omega (arith, c .before .before .before .before .before .before .before .before .if1 .left)) (c .before .before .if5 .taken) (c .before .before .before .none .ensures) (c .before .closure .ensures) (c .join4 .ensures)
 
 closure-closure-requires-2 : (t : ℕ) → closure-lts.Need-closure-requires-2 (callees-closure t) (closure-at t) closure.Post
 closure-closure-requires-2 t c κs =
@@ -71,9 +61,7 @@ closure-closure-requires-3 t c κs =
 
 closure-returns-6 : (t : ℕ) → closure-lts.Need-returns-6 (callees-closure t) (closure-at t) closure.Post
 closure-returns-6 t c =
-    let s = c .before .before .before .before .before .before .before .before .before .before .before in
-    let a = s .args in
-    closure-seq (a .kinds .now) (a .sizes .now) (a .low) (a .end) (a .rest) (a .out) (c .closure3 .result) (omega (arith, c .before .before .before .before .before .before .before .before .before .before .if1 .left)) (c .before .before .before .middle .result) (c .before .before .before .middle .ensures) (c .before .before .before .before .before .none .result) (c .before .closure2 .result) (c .before .before .if6 .taken) (c .before .before .before .before .before .none .ensures) (c .before .closure2 .ensures) (c .closure3 .ensures)
+    closure-seq (omega (arith, c .before .before .before .before .before .before .before .before .before .before .if1 .left)) (c .before .before .before .middle .ensures) (c .before .before .if6 .taken) (c .before .before .before .before .before .none .ensures) (c .before .closure2 .ensures) (c .closure3 .ensures)
 
 closure-closure-requires-4 : (t : ℕ) → closure-lts.Need-closure-requires-4 (callees-closure t) (closure-at t) closure.Post
 closure-closure-requires-4 t c κs =
@@ -87,9 +75,9 @@ closure-closure-requires-5 t c κs =
 
 closure-returns-7 : (t : ℕ) → closure-lts.Need-returns-7 (callees-closure t) (closure-at t) closure.Post
 closure-returns-7 t c =
-    let s = c .before .before .before .before .before .before .before .before .before .before .before in
-    let a = s .args in
-    closure-alt (a .kinds .now) (a .sizes .now) (a .low) (a .end) (a .rest) (a .out) (c .closure5 .result) (omega (arith, c .before .before .before .before .before .before .before .before .before .before .if1 .left)) (c .before .before .before .middle .result) (c .before .before .before .middle .ensures) (c .before .closure4 .result) (two _ (c .before .before .before .before .before .before .before .before .if2 .left) (c .before .before .before .before .if5 .left) (c .before .before .if6 .left) (c .before .before .before .before .before .before .if4 .left)) (c .before .closure4 .ensures) (c .closure5 .ensures)
+    let c3 = c .before .before .before in
+    let c6 = c3 .before .before .before in
+    closure-alt (omega (arith, c6 .before .before .before .before .if1 .left)) (c3 .middle .ensures) (two _ (c6 .before .before .if2 .left) (c3 .before .if5 .left) (c .before .before .if6 .left) (c6 .if4 .left)) (c .before .closure4 .ensures) (c .closure5 .ensures)
 
 pub +closure-spec : {M : Type 1} → statement M
 +closure-spec = close μ-closure λ t. closure-lts.spec (callees-closure t) (closure-at t)

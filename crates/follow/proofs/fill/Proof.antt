@@ -22,7 +22,10 @@ store-requires : tie.Need-store-requires Inv-loop μ-loop
 store-requires c κs = let l = c .before .before .before .before .before .before .before .loop in (omega (arith, c .before .before .before .before .wide .ensures .0), c .before .before .before .before .before .row-of .ensures .good, l .inv .1 .long)
 
 loop-again : tie.Need-loop-again Inv-loop μ-loop
-loop-again c = let a = c .before .before .before .before .before .before .before .before .before .args in let l = c .before .before .before .before .before .before .before .before .loop in let t = tablesOf (l .rows) (l .lens) (l .sets) (l .ends) in (omega arith, filled-more (a .kinds .now) (a .sizes .now) (a .end) (l .k) (c .before .before .before .before .before .before .row-of .result) t _ (omega arith) (l .inv .1) (c .before .before .before .before .before .before .row-of .ensures) (rw (c .before .before .before .before .before .wide .ensures .0) at (c .store .ensures)))
+loop-again c =
+    let c5 = c .before .before .before .before .before in
+    let c8 = c5 .before .before .before in
+    let a = c8 .before .args in let l = c8 .loop in let t = tablesOf (l .rows) (l .lens) (l .sets) (l .ends) in (omega arith, filled-more (a .kinds .now) (a .sizes .now) (a .end) (l .k) (c5 .before .row-of .result) t _ (omega arith) (l .inv .1) (c5 .before .row-of .ensures) (rw (c5 .wide .ensures .0) at (c .store .ensures)))
 
 returns : tie.Need-returns Inv-loop μ-loop
 returns c = let l = c .before .loop in let e : l .k ≡ 65 = omega arith in rw e at (l .inv .1)

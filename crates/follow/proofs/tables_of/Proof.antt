@@ -6,7 +6,9 @@ use Rattle.follow.proofs.tables_of.Statement.{statement}
 use Rattle.follow.proofs.tables_of.Tie as tie
 
 returns : tie.Need-returns
-returns c = filled-right (c .before .before .before .before .before .before .before .before .before .before .before .args .t1) (c .before .before .before .before .before .before .before .before .places .result) _ (c .before .before .before .before .before .before .before .before .places .ensures .1) (c .fill .ensures)
+returns c =
+    let c8 = c .before .before .before .before .before .before .before .before in
+    filled-right (c8 .before .before .before .args .t1) (c8 .places .result) _ (c8 .places .ensures .1) (c .fill .ensures)
 
 pub tables-of-spec : {M : Type 1} → statement M
 tables-of-spec = tie.close (tie.spec (λ c κs. search needs) (λ c κs. search needs) returns)

@@ -23,11 +23,13 @@ loop-holds c =
 
 loop-again : tie.Need-loop-again Inv-loop μ-loop
 loop-again c =
-    let a = c .before .before .before .before .before .before .before .before .args in
-    let i = c .before .before .before .before .before .before .before .fresh in
+    let c3 = c .before .before .before in
+    let c6 = c3 .before .before .before in
+    let a = c6 .before .before .args in
+    let i = c6 .before .fresh in
     let e = i .ensures in
-    let l = c .before .before .before .before .before .before .loop in
-    reached-more (a .chunk .now) (i .result) (ap (λ x. x .n) e) (ap (λ x. x .whole) e) (l .chunk) (l .line) (l .r) (l .turns) (l .inv) (not-true (l .r .whole) (c .before .before .before .if1 .taken))
+    let l = c6 .loop in
+    reached-more (a .chunk .now) (i .result) (ap (λ x. x .n) e) (ap (λ x. x .whole) e) (l .chunk) (l .line) (l .r) (l .turns) (l .inv) (not-true (l .r .whole) (c3 .if1 .taken))
     (c .step .last .0) (c .step .last .1 .0) (c .step .result) (l .turns - 1) (c .step .ensures)
 
 returns : tie.Need-returns Inv-loop μ-loop

@@ -38,15 +38,18 @@ loop-less c = omega (arith, c .before .before .before .run-back2 .ensures .withi
 
 loop-again : tie.Need-loop-again Inv-loop μ-loop
 loop-again c =
-    let a = c .before .before .before .before .before .before .before .before .before .before .before .before .before .before .before .args in
-    let l = c .before .before .before .before .before .before .before .before .before .before .before .before .loop in
-    let more = c .before .before .before .before .before .before .before .before .before .before .before .loop-test .taken in
+    let c3 = c .before .before .before in
+    let c7 = c3 .before .before .before .before in
+    let c11 = c7 .before .before .before .before in
+    let a = c11 .before .before .before .before .args in
+    let l = c11 .before .loop in
+    let more = c11 .loop-test .taken in
     let most = l .inv .0 in
-    let s = c .before .before .before .run-back2 in
-    let m = c .before .before .before .before .recall in
-    let b = c .before .before .before .before .before .before .before .alive-before in
+    let s = c3 .run-back2 in
+    let m = c3 .before .recall in
+    let b = c7 .alive-before in
     let e : suc (l .i - 1) ≡ l .i = omega arith in
-    let before = rw (c .before .before .before .before .before .before .before .before .before .wide .ensures .0) at (b .ensures) in
+    let before = rw (c7 .before .before .wide .ensures .0) at (b .ensures) in
     let best = rw (c .before .wants .ensures) at (c .at-if .ensures) in (
       omega (arith, s .ensures .within),
       m .ensures .memory,

@@ -25,15 +25,19 @@ returns-2 c =
 
 returns-3 : tie.Need-returns-3
 returns-3 c =
-    let s = c .before .before .before .before .before .before .before in
+    let c3 = c .before .before .before in
+    let c5 = c3 .before .before in
+    let s = c5 .before .before in
     let a = s .args in
-    recalled-found (a .leaves) (a .ending) (a .sets .now) (c .before .before .before .before .before .take-least .result .leaf) (a .alive) (below (c .before .before .before .before .before)) (a .keys .now) (a .values .now) (s .pre) (c .before .before .before .if2 .left) (c .leading-leaves .result) (c .leading-leaves .ensures)
+    recalled-found (a .leaves) (a .ending) (a .sets .now) (c5 .take-least .result .leaf) (a .alive) (below (c5)) (a .keys .now) (a .values .now) (s .pre) (c3 .if2 .left) (c .leading-leaves .result) (c .leading-leaves .ensures)
 
 returns-4 : tie.Need-returns-4
 returns-4 c =
-    let s = c .before .before .before .before .before .before .before in
+    let c3 = c .before .before .before in
+    let c5 = c3 .before .before in
+    let s = c5 .before .before in
     let a = s .args in
-    recalled-known (a .leaves) (a .ending) (a .sets .now) (c .before .before .before .before .before .take-least .result .leaf) (a .alive) (below (c .before .before .before .before .before)) (a .keys .now) (a .values .now) (s .pre) (c .before .before .before .if2 .left) (c .before .if3 .left)
+    recalled-known (a .leaves) (a .ending) (a .sets .now) (c5 .take-least .result .leaf) (a .alive) (below (c5)) (a .keys .now) (a .values .now) (s .pre) (c3 .if2 .left) (c .before .if3 .left)
 
 pub recall-spec : {M : Type 1} → statement M
 recall-spec =

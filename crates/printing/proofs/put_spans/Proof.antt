@@ -8,9 +8,11 @@ use Rattle.printing.proofs.put_spans.Tie as tie
 
 returns : tie.Need-returns
 returns c =
-    let f = c .before .before .before .before .before .before .before .before .before .before .before .put-field .ensures in
-    let s = c .before .before .before .before .before .before .before .before .before .put-field2 .ensures in
-    let a = c .before .before .before .before .put-field3 .ensures in
+    let c4 = c .before .before .before .before in
+    let c9 = c4 .before .before .before .before .before in
+    let f = c9 .before .before .put-field .ensures in
+    let s = c9 .put-field2 .ensures in
+    let a = c4 .put-field3 .ensures in
     let l = c .before .before .put-field4 .ensures in (
       _,
       record {
@@ -22,10 +24,10 @@ returns c =
         longest = l .field;
         text = refl;
       },
-      appended-join (c .before .before .before .before .before .before .before .before .before .before .before .before .before .put .ensures)
+      appended-join (c9 .before .before .before .before .put .ensures)
           (appended-join (f .put)
           (appended-join (s .put)
-          (appended-join (c .before .before .before .before .before .before .put2 .ensures)
+          (appended-join (c4 .before .before .put2 .ensures)
           (appended-join (same-put (a .put) (field-one (a .field) (f .field)))
           (appended-join (l .put) (c .put-byte .ensures)))))),
     )

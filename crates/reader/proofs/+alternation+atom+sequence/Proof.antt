@@ -76,16 +76,29 @@ alternation-returns : (t : ℕ) → alternation-lts.Need-returns (callees-altern
 alternation-returns t c = passed-on _ (c .enum-told .given .1) (c .before .before .sequence .ensures)
 
 alternation-alternation-requires : (t : ℕ) → alternation-lts.Need-alternation-requires (callees-alternation t) (alternation-at t) alternation.Post
-alternation-alternation-requires t c κs = (omega (arith, (known (c .before .before .before .before .before .before .before .before .part .given .1) (c .before .before .before .before .before .before .before .before .before .before .sequence .ensures)) .forward), begun-bar (c .before .before .before .before .before .before .before .before .before .before .before .before .before .pre .1) (known (c .before .before .before .before .before .before .before .before .part .given .1) (c .before .before .before .before .before .before .before .before .before .before .sequence .ensures)) (c .before .before .before .if1 .taken) (c .before .if2 .taken))
+alternation-alternation-requires t c κs =
+    let c3 = c .before .before .before in
+    let c8 = c3 .before .before .before .before .before in
+    let c10 = c8 .before .before in
+    (omega (arith, (known (c8 .part .given .1) (c10 .sequence .ensures)) .forward), begun-bar (c10 .before .before .before .pre .1) (known (c8 .part .given .1) (c10 .sequence .ensures)) (c3 .if1 .taken) (c .before .if2 .taken))
 
 alternation-returns-2 : (t : ℕ) → alternation-lts.Need-returns-2 (callees-alternation t) (alternation-at t) alternation.Post
 alternation-returns-2 t c = passed-on _ (c .enum-told2 .given .1) (c .before .before .alternation .ensures)
 
 alternation-plus-requires : (t : ℕ) → alternation-lts.Need-plus-requires (callees-alternation t) (alternation-at t) alternation.Post
-alternation-plus-requires t c κs = omega (arith, weighs-65 ((known (c .before .before .before .before .before .before .before .before .before .before .before .before .before .before .part .given .1) (c .before .before .before .before .before .before .before .before .before .before .before .before .before .before .before .before .sequence .ensures)) .load), weighs-65 ((known (c .before .before .before .more .given .1) (c .before .before .before .before .before .alternation .ensures)) .load), c .before .before .before .before .before .before .before .before .before .before .one-at-least .ensures)
+alternation-plus-requires t c κs =
+    let c3 = c .before .before .before in
+    let c10 = c3 .before .before .before .before .before .before .before in
+    let c14 = c10 .before .before .before .before in
+    omega (arith, weighs-65 ((known (c14 .part .given .1) (c14 .before .before .sequence .ensures)) .load), weighs-65 ((known (c3 .more .given .1) (c3 .before .before .alternation .ensures)) .load), c10 .one-at-least .ensures)
 
 alternation-returns-3 : (t : ℕ) → alternation-lts.Need-returns-3 (callees-alternation t) (alternation-at t) alternation.Post
-alternation-returns-3 t c = rw (c .found .ensures) (found-part (alternation-or _ _ (known (c .before .before .before .before .before .before .before .before .before .before .before .before .before .before .before .before .part .given .1) (c .before .before .before .before .before .before .before .before .before .before .before .before .before .before .before .before .before .before .sequence .ensures)) (c .before .before .before .before .before .before .before .before .before .before .before .before .before .push-if-empty .ensures .added) (c .before .before .before .before .before .before .before .before .before .before .before .before .before .push-if-empty .ensures .kept) (c .before .before .before .before .before .before .before .before .before .before .before .before .one-at-least .ensures) (c .before .before .before .before .before .before .before .before .before .before .before .if1 .taken) (c .before .before .before .before .before .before .before .before .before .if2 .taken) (known (c .before .before .before .before .before .more .given .1) (c .before .before .before .before .before .before .before .alternation .ensures)) (c .before .before .push .ensures) (c .before .plus .ensures)))
+alternation-returns-3 t c =
+    let c5 = c .before .before .before .before .before in
+    let c9 = c5 .before .before .before .before in
+    let c12 = c9 .before .before .before in
+    let c16 = c12 .before .before .before .before in
+    rw (c .found .ensures) (found-part (alternation-or _ _ (known (c16 .part .given .1) (c16 .before .before .sequence .ensures)) (c12 .before .push-if-empty .ensures .added) (c12 .before .push-if-empty .ensures .kept) (c12 .one-at-least .ensures) (c9 .before .before .if1 .taken) (c9 .if2 .taken) (known (c5 .more .given .1) (c5 .before .before .alternation .ensures)) (c .before .before .push .ensures) (c .before .plus .ensures)))
 
 alternation-returns-4 : (t : ℕ) → alternation-lts.Need-returns-4 (callees-alternation t) (alternation-at t) alternation.Post
 alternation-returns-4 t c = rw (c .found2 .ensures) (found-part (alternation-last _ (known (c .before .before .before .before .before .before .part .given .1) (c .before .before .before .before .before .before .before .before .sequence .ensures)) (c .before .before .before .push-if-empty .ensures .added) (c .before .before .before .push-if-empty .ensures .kept) (c .before .before .one-at-least .ensures) (λ h. either (λ x. x .2 .left) (λ x. absurd (omega (arith, x .left))) (c .before .if1 .came))))
@@ -109,13 +122,21 @@ atom-returns-3 : (t : ℕ) → atom-lts.Need-returns-3 (callees-atom t) (atom-at
 atom-returns-3 t c = passed-on _ (c .enum-told .given .1) (c .before .before .alternation .ensures)
 
 atom-returns-4 : (t : ℕ) → atom-lts.Need-returns-4 (callees-atom t) (atom-at t) atom.Post
-atom-returns-4 t c = rw (c .refused2 .ensures) (found-fault (fault-open (c .before .before .before .before .before .before .before .before .before .before .before .pre .1 .0) (c .before .before .before .before .before .before .before .before .before .before .before .pre .1 .1 .before) (c .before .before .before .before .before .before .before .before .if1 .left) (c .before .before .before .before .before .before .before .if2 .left) (known (c .before .before .before .part .given .1) (c .before .before .before .before .before .alternation .ensures)) (c .before .if3 .taken)))
+atom-returns-4 t c =
+    let c3 = c .before .before .before in
+    let c7 = c3 .before .before .before .before in
+    let c11 = c7 .before .before .before .before in
+    rw (c .refused2 .ensures) (found-fault (fault-open (c11 .pre .1 .0) (c11 .pre .1 .1 .before) (c7 .before .if1 .left) (c7 .if2 .left) (known (c3 .part .given .1) (c3 .before .before .alternation .ensures)) (c .before .if3 .taken)))
 
 atom-add-found : (t : ℕ) → atom-lts.Need-add-found (callees-atom t) (atom-at t) atom.Post
 atom-add-found t c = omega (arith, (known (c .before .before .part .given .1) (c .before .before .before .before .alternation .ensures)) .inside)
 
 atom-returns-5 : (t : ℕ) → atom-lts.Need-returns-5 (callees-atom t) (atom-at t) atom.Post
-atom-returns-5 t c = rw (c .found .ensures) (found-part (group-here (c .before .before .before .before .before .before .before .before .before .before .before .pre .1 .0) (c .before .before .before .before .before .before .before .before .before .before .before .pre .1 .1 .before) (c .before .before .before .before .before .before .before .before .if1 .left) (known (c .before .before .before .part .given .1) (c .before .before .before .before .before .alternation .ensures)) (c .before .if3 .left)))
+atom-returns-5 t c =
+    let c3 = c .before .before .before in
+    let c8 = c3 .before .before .before .before .before in
+    let c11 = c8 .before .before .before in
+    rw (c .found .ensures) (found-part (group-here (c11 .pre .1 .0) (c11 .pre .1 .1 .before) (c8 .if1 .left) (known (c3 .part .given .1) (c3 .before .before .alternation .ensures)) (c .before .if3 .left)))
 
 sequence-returns : (t : ℕ) → sequence-lts.Need-returns (callees-sequence t) (sequence-at t) sequence.Post
 sequence-returns t c = rw (c .found .ensures) (found-part (sequence-stop (c .before .before .before .pre .1) (λ l n. absurd (omega arith))))
@@ -145,10 +166,18 @@ sequence-returns-6 : (t : ℕ) → sequence-lts.Need-returns-6 (callees-sequence
 sequence-returns-6 t c = passed-on _ (c .enum-told3 .given .1) (c .before .before .sequence .ensures)
 
 sequence-plus-requires : (t : ℕ) → sequence-lts.Need-plus-requires (callees-sequence t) (sequence-at t) sequence.Post
-sequence-plus-requires t c κs = (weighs-65 ((known (c .before .before .before .before .before .before .before .before .repeated .given .1) (c .before .before .before .before .before .before .before .before .before .before .repeat .ensures)) .load _ _ (atom-heaviest ((known (c .before .before .before .before .before .before .before .before .before .before .before .before .before .part .given .1) (c .before .before .before .before .before .before .before .before .before .before .before .before .before .before .before .atom .ensures)) .x)) ((known (c .before .before .before .before .before .before .before .before .before .before .before .before .before .part .given .1) (c .before .before .before .before .before .before .before .before .before .before .before .before .before .before .before .atom .ensures)) .load)), weighs-65 ((known (c .before .before .before .more .given .1) (c .before .before .before .before .before .sequence .ensures)) .load))
+sequence-plus-requires t c κs =
+    let c3 = c .before .before .before in
+    let c8 = c3 .before .before .before .before .before in
+    let c13 = c8 .before .before .before .before .before in
+    (weighs-65 ((known (c8 .repeated .given .1) (c8 .before .before .repeat .ensures)) .load _ _ (atom-heaviest ((known (c13 .part .given .1) (c13 .before .before .atom .ensures)) .x)) ((known (c13 .part .given .1) (c13 .before .before .atom .ensures)) .load)), weighs-65 ((known (c3 .more .given .1) (c3 .before .before .sequence .ensures)) .load))
 
 sequence-returns-7 : (t : ℕ) → sequence-lts.Need-returns-7 (callees-sequence t) (sequence-at t) sequence.Post
-sequence-returns-7 t c = rw (c .found4 .ensures) (found-part (sequence-part _ (known (c .before .before .before .before .before .before .before .before .before .before .before .before .before .before .before .part .given .1) (c .before .before .before .before .before .before .before .before .before .before .before .before .before .before .before .before .before .atom .ensures)) (known (c .before .before .before .before .before .before .before .before .before .before .repeated .given .1) (c .before .before .before .before .before .before .before .before .before .before .before .before .repeat .ensures)) (known (c .before .before .before .before .before .more .given .1) (c .before .before .before .before .before .before .before .sequence .ensures)) (c .before .before .push-if-more .ensures .added) (λ e. c .before .before .push-if-more .ensures .kept (λ n. n e)) (c .before .plus .ensures)))
+sequence-returns-7 t c =
+    let c5 = c .before .before .before .before .before in
+    let c10 = c5 .before .before .before .before .before in
+    let c15 = c10 .before .before .before .before .before in
+    rw (c .found4 .ensures) (found-part (sequence-part _ (known (c15 .part .given .1) (c15 .before .before .atom .ensures)) (known (c10 .repeated .given .1) (c10 .before .before .repeat .ensures)) (known (c5 .more .given .1) (c5 .before .before .sequence .ensures)) (c .before .before .push-if-more .ensures .added) (λ e. c .before .before .push-if-more .ensures .kept (λ n. n e)) (c .before .plus .ensures)))
 
 pub +alternation+atom+sequence-spec : {M : Type 1} → statement M
 +alternation+atom+sequence-spec = close μ-alternation μ-atom μ-sequence (λ t. alternation-lts.spec (callees-alternation t) (alternation-at t)

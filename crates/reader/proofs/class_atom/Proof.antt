@@ -17,13 +17,19 @@ use Rattle.scanner.proofs.read_class.Reads as read-class-reads
 use Rattle.reader.proofs.refused.Reads as refused-reads
 
 returns : tie.Need-returns
-returns c = rw (c .refused .ensures) (found-fault (fault-class (c .before .before .before .before .before .pre .0) (c .before .before .before .before .before .pre .1) (c .before .before .before .before .before .pre .2) (class-none _ _ _ (c .before .enum-told .given .1) (c .before .before .before .read-class .ensures))))
+returns c =
+    let c3 = c .before .before .before in
+    let c5 = c3 .before .before in
+    rw (c .refused .ensures) (found-fault (fault-class (c5 .pre .0) (c5 .pre .1) (c5 .pre .2) (class-none _ _ _ (c .before .enum-told .given .1) (c3 .read-class .ensures))))
 
 push-leaf-requires : tie.Need-push-leaf-requires
 push-leaf-requires c κs = omega (arith, c .before .before .before .before .before .before .pre .0 .begin .short)
 
 returns-2 : tie.Need-returns-2
-returns-2 c = rw (c .found .ensures) (found-part (let (a, f, o) = class-ends _ _ _ (c .before .before .before .before .class .given .1) (c .before .before .before .before .before .before .read-class .ensures) in class-here (c .before .before .before .before .before .before .before .before .pre .0) (c .before .before .before .before .before .before .before .before .pre .1) (c .before .push-leaf .ensures) a (c .before .before .before .before .before .before .before .before .pre .2) f o))
+returns-2 c =
+    let c4 = c .before .before .before .before in
+    let c8 = c4 .before .before .before .before in
+    rw (c .found .ensures) (found-part (let (a, f, o) = class-ends _ _ _ (c4 .class .given .1) (c4 .before .before .read-class .ensures) in class-here (c8 .pre .0) (c8 .pre .1) (c .before .push-leaf .ensures) a (c8 .pre .2) f o))
 
 pub class-atom-spec : {M : Type 1} → statement M
 class-atom-spec =

@@ -32,16 +32,28 @@ load-requires-3 : tie.Need-load-requires-3
 load-requires-3 c κs = omega (arith, between-63 _ _ _ (c .before .before .before .count3 .given .1) (c .before .before .before .before .before .read-count .ensures))
 
 returns : tie.Need-returns
-returns c = rw (c .found .ensures) (found-part (let (d, f, g, o) = count-exactly _ _ _ (c .before .before .before .before .before .count .given .1) (c .before .before .before .before .before .before .before .read-count .ensures) in exactly-here (c .before .before .before .before .before .before .before .before .before .pre .1) (c .before .before .before .before .before .before .before .before .before .pre .2) o d _ _ f g (c .before .load .ensures) (c .before .before .exactly .ensures)))
+returns c =
+    let c5 = c .before .before .before .before .before in
+    let c9 = c5 .before .before .before .before in
+    rw (c .found .ensures) (found-part (let (d, f, g, o) = count-exactly _ _ _ (c5 .count .given .1) (c5 .before .before .read-count .ensures) in exactly-here (c9 .pre .1) (c9 .pre .2) o d _ _ f g (c .before .load .ensures) (c .before .before .exactly .ensures)))
 
 returns-2 : tie.Need-returns-2
-returns-2 c = rw (c .found2 .ensures) (found-part (let (d, f, g, o) = count-atLeast _ _ _ (c .before .before .before .before .before .count2 .given .1) (c .before .before .before .before .before .before .before .read-count .ensures) in atLeast-here (c .before .before .before .before .before .before .before .before .before .pre .1) (c .before .before .before .before .before .before .before .before .before .pre .2) o d _ _ f g (c .before .load2 .ensures) (c .before .before .at-least .ensures)))
+returns-2 c =
+    let c5 = c .before .before .before .before .before in
+    let c9 = c5 .before .before .before .before in
+    rw (c .found2 .ensures) (found-part (let (d, f, g, o) = count-atLeast _ _ _ (c5 .count2 .given .1) (c5 .before .before .read-count .ensures) in atLeast-here (c9 .pre .1) (c9 .pre .2) o d _ _ f g (c .before .load2 .ensures) (c .before .before .at-least .ensures)))
 
 returns-3 : tie.Need-returns-3
-returns-3 c = rw (c .found3 .ensures) (found-part (let (d, d′, f, g, g′, o) = count-between _ _ _ (c .before .before .before .before .before .count3 .given .1) (c .before .before .before .before .before .before .before .read-count .ensures) in between-here (c .before .before .before .before .before .before .before .before .before .pre .1) (c .before .before .before .before .before .before .before .before .before .pre .2) o d d′ _ _ _ f g g′ (c .before .load3 .ensures) (c .before .before .between .ensures)))
+returns-3 c =
+    let c5 = c .before .before .before .before .before in
+    let c9 = c5 .before .before .before .before in
+    rw (c .found3 .ensures) (found-part (let (d, d′, f, g, g′, o) = count-between _ _ _ (c5 .count3 .given .1) (c5 .before .before .read-count .ensures) in between-here (c9 .pre .1) (c9 .pre .2) o d d′ _ _ _ f g g′ (c .before .load3 .ensures) (c .before .before .between .ensures)))
 
 returns-4 : tie.Need-returns-4
-returns-4 c = rw (c .refused .ensures) (found-fault (fault-count (c .before .before .before .before .before .pre .0) (c .before .before .before .before .before .pre .1) (c .before .before .before .before .before .pre .2) (count-none _ _ _ (c .before .enum-told .given .1) (c .before .before .before .read-count .ensures))))
+returns-4 c =
+    let c3 = c .before .before .before in
+    let c5 = c3 .before .before in
+    rw (c .refused .ensures) (found-fault (fault-count (c5 .pre .0) (c5 .pre .1) (c5 .pre .2) (count-none _ _ _ (c .before .enum-told .given .1) (c3 .read-count .ensures))))
 
 pub counted-spec : {M : Type 1} → statement M
 counted-spec =

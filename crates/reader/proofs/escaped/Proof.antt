@@ -22,10 +22,17 @@ push-leaf-requires : tie.Need-push-leaf-requires
 push-leaf-requires c κs = omega (arith, c .before .before .before .before .before .before .pre .0 .begin .short)
 
 returns-2 : tie.Need-returns-2
-returns-2 c = rw (c .found .ensures) (found-part (escaped-here (c .before .before .before .before .before .before .before .before .pre .0) (c .before .before .before .before .before .before .before .before .pre .1) (c .before .push-leaf .ensures) (c .before .before .before .before .before .before .before .before .pre .2) (c .before .before .before .before .before .before .if1 .left) (sym (c .before .before .before .if2 .taken) ∙ c .before .before .before .before .is-special .ensures)))
+returns-2 c =
+    let c3 = c .before .before .before in
+    let c6 = c3 .before .before .before in
+    let c8 = c6 .before .before in
+    rw (c .found .ensures) (found-part (escaped-here (c8 .pre .0) (c8 .pre .1) (c .before .push-leaf .ensures) (c8 .pre .2) (c6 .if1 .left) (sym (c3 .if2 .taken) ∙ c3 .before .is-special .ensures)))
 
 returns-3 : tie.Need-returns-3
-returns-3 c = rw (c .refused2 .ensures) (found-fault (fault-escape (c .before .before .before .before .before .before .pre .0) (c .before .before .before .before .before .before .pre .1) (c .before .before .before .before .before .before .pre .2) (c .before .before .before .before .if1 .left) (sym (c .before .if2 .left) ∙ c .before .before .is-special .ensures)))
+returns-3 c =
+    let c4 = c .before .before .before .before in
+    let c6 = c4 .before .before in
+    rw (c .refused2 .ensures) (found-fault (fault-escape (c6 .pre .0) (c6 .pre .1) (c6 .pre .2) (c4 .if1 .left) (sym (c .before .if2 .left) ∙ c .before .before .is-special .ensures)))
 
 pub escaped-spec : {M : Type 1} → statement M
 escaped-spec =

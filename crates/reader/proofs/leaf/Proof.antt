@@ -21,10 +21,16 @@ returns-3 : tie.Need-returns-3
 returns-3 c = rw (c .found .ensures) (found-part (dot-here (c .before .before .before .before .before .before .before .before .pre .0) (c .before .before .before .before .before .before .before .before .pre .1 .before) (c .before .push-leaf .ensures) (c .before .before .before .if3 .taken)))
 
 returns-4 : tie.Need-returns-4
-returns-4 c = rw (c .refused .ensures) (found-fault (fault-stray (c .before .before .before .before .before .before .before .before .pre .0) (c .before .before .before .before .before .before .before .before .pre .1 .before) (sym (c .before .if4 .taken) ∙ c .before .before .is-special .ensures) (c .before .before .before .before .before .if1 .left) (c .before .before .before .before .before .before .before .before .pre .2) (c .before .before .before .if3 .left) (c .before .before .before .before .if2 .left) (c .before .before .before .before .before .before .before .before .pre .1 .noBar) (c .before .before .before .before .before .before .before .before .pre .1 .noClose)))
+returns-4 c =
+    let c3 = c .before .before .before in
+    let c8 = c3 .before .before .before .before .before in
+    rw (c .refused .ensures) (found-fault (fault-stray (c8 .pre .0) (c8 .pre .1 .before) (sym (c .before .if4 .taken) ∙ c .before .before .is-special .ensures) (c3 .before .before .if1 .left) (c8 .pre .2) (c3 .if3 .left) (c3 .before .if2 .left) (c8 .pre .1 .noBar) (c8 .pre .1 .noClose)))
 
 returns-5 : tie.Need-returns-5
-returns-5 c = rw (c .found2 .ensures) (found-part (plain-here (c .before .before .before .before .before .before .before .before .before .before .pre .0) (c .before .before .before .before .before .before .before .before .before .before .pre .1 .before) (c .before .push-leaf2 .ensures) (sym (c .before .before .before .if4 .left) ∙ c .before .before .before .before .is-special .ensures)))
+returns-5 c =
+    let c3 = c .before .before .before in
+    let c10 = c3 .before .before .before .before .before .before .before in
+    rw (c .found2 .ensures) (found-part (plain-here (c10 .pre .0) (c10 .pre .1 .before) (c .before .push-leaf2 .ensures) (sym (c3 .if4 .left) ∙ c3 .before .is-special .ensures)))
 
 pub leaf-spec : {M : Type 1} → statement M
 leaf-spec =

@@ -10,9 +10,11 @@ use Rattle.records.proofs.pack.Tie as tie
 
 returns : tie.Need-returns
 returns c =
-    let a = c .before .before .before .before .before .before .before .before .before .before .args in
+    let c4 = c .before .before .before .before in
+    let c9 = c4 .before .before .before .before .before in
+    let a = c9 .before .args in
     let long : length (a .t1 .list) ≡ 64 = search needs in
-    rw (c .put-origin .ensures, c .before .before .put-set .ensures, c .before .before .before .before .put-flags .ensures, c .before .before .before .before .before .before .with-order .ensures, c .before .before .before .before .before .before .before .before .before .least .ensures)
+    rw (c .put-origin .ensures, c .before .before .put-set .ensures, c4 .put-flags .ensures, c4 .before .before .with-order .ensures, c9 .least .ensures)
     (pack-right (a .t1) (a .origin) (a .byte) long (omega arith))
 
 pub pack-spec : {M : Type 1} → statement M

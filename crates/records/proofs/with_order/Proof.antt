@@ -22,9 +22,11 @@ loop-holds c = (omega arith, refl, λ j h. zeros-blank 64 j)
 
 loop-again : tie.Need-loop-again Inv-loop μ-loop
 loop-again c =
-    let p = c .before .before .before .before .before .before .before .loop in
-    let a = c .before .before .before .before .before .before .before .before .args in
-    let e = rw (c .before .before .before .before .entry .ensures, c .before .before .before .entry2 .ensures, c .before .before .entry3 .ensures, c .before .entry4 .ensures) at (c .put-four .ensures) in
+    let c3 = c .before .before .before in
+    let c7 = c3 .before .before .before .before in
+    let p = c7 .loop in
+    let a = c7 .before .args in
+    let e = rw (c3 .before .entry .ensures, c3 .entry2 .ensures, c .before .before .entry3 .ensures, c .before .entry4 .ensures) at (c .put-four .ensures) in
     (omega arith, rw e (put-more (p .v) (take (a .n) (a .list .now)) (p .i) (omega arith) ∙ p .inv .1), rw e (zeros-more (p .v) (p .i) _ _ _ _ (p .inv .2)))
 
 returns : tie.Need-returns Inv-loop μ-loop

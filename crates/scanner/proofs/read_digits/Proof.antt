@@ -50,12 +50,14 @@ mul-t8 c = omega (arith, c .before .before .before .before .before .wide .ensure
 
 add-t14 : tie.Need-add-t14
 add-t14 c =
-    omega (arith, c .before .before .before .before .before .wide .ensures .0, c .wide2 .ensures .0, digit-bounds (stood (c .before .before .before .before .before .before .before .before .before)) (tens (c .before .before .before .before .before .before)), digit-bounds (follows (c .before .before .before .before)) (ones (c .before)))
+    let c4 = c .before .before .before .before in
+    omega (arith, c4 .before .wide .ensures .0, c .wide2 .ensures .0, digit-bounds (stood (c4 .before .before .before .before .before)) (tens (c4 .before .before)), digit-bounds (follows (c4)) (ones (c .before)))
 
 returns-5 : tie.Need-returns-5
 returns-5 c =
-    rw (c .before .before .before .before .before .wide .ensures .0, c .wide2 .ensures .0)
-    (digits-two (stood (c .before .before .before .before .before .before .before .before .before)) (tens (c .before .before .before .before .before .before)) (follows (c .before .before .before .before)) (ones (c .before)))
+    let c4 = c .before .before .before .before in
+    rw (c4 .before .wide .ensures .0, c .wide2 .ensures .0)
+    (digits-two (stood (c4 .before .before .before .before .before)) (tens (c4 .before .before)) (follows (c4)) (ones (c .before)))
 
 pub read-digits-spec : {M : Type 1} → statement M
 read-digits-spec =

@@ -24,9 +24,10 @@ returns-2 c =
 
 returns-3 : tie.Need-returns-3
 returns-3 c =
-    let a = c .before .before .before .before .before .before .before .before .args in
-    let (x, f, v, o) = rw (c .before .before .first .given .1) at (c .before .before .before .before .read-inner .ensures) in
-    c .read-range .ensures x (a .at) v o (item-read (drop (a .at) (a .s .now)) _ _ (seen (c .before .before .before .before .before .before .has-byte .ensures) (c .before .before .before .before .before .if1 .left)) f)
+    let c4 = c .before .before .before .before in
+    let a = c4 .before .before .before .before .args in
+    let (x, f, v, o) = rw (c .before .before .first .given .1) at (c4 .read-inner .ensures) in
+    c .read-range .ensures x (a .at) v o (item-read (drop (a .at) (a .s .now)) _ _ (seen (c4 .before .before .has-byte .ensures) (c4 .before .if1 .left)) f)
 
 pub read-item-spec : {M : Type 1} → statement M
 read-item-spec =

@@ -15,13 +15,17 @@ returns c =
 
 returns-2 : tie.Need-returns-2
 returns-2 c =
+    let c3 = c .before .before .before in
+    let c7 = c3 .before .before .before .before in
     rw (c .either2 .ensures, c .before .within .ensures)
-    (take-range (c .before .before .before .before .before .before .before .args .b) (c .before .before .before .before .before .before .before .args .held) (rw (c .before .before .before .item2 .given .1) at (c .before .before .before .before .before .read-item .ensures)))
+    (take-range (c7 .args .b) (c7 .args .held) (rw (c3 .item2 .given .1) at (c3 .before .before .read-item .ensures)))
 
 returns-3 : tie.Need-returns-3
 returns-3 c =
+    let c3 = c .before .before .before in
+    let c7 = c3 .before .before .before .before in
     rw (c .either3 .ensures, c .before .in-set .ensures)
-    (take-named (c .before .before .before .before .before .before .before .args .b) (c .before .before .before .before .before .before .before .args .held) (rw (c .before .before .before .item3 .given .1) at (c .before .before .before .before .before .read-item .ensures)))
+    (take-named (c7 .args .b) (c7 .args .held) (rw (c3 .item3 .given .1) at (c3 .before .before .read-item .ensures)))
 
 returns-4 : tie.Need-returns-4
 returns-4 c = rw (c .enum-told .given .1) at (c .before .before .read-item .ensures)

@@ -40,9 +40,11 @@ loop-less c = let o = (rw (c .before .item .given .1) at (c .before .before .bef
 
 loop-again : tie.Need-loop-again Inv-loop μ-loop
 loop-again c =
-    let l = c .before .before .before .before .before .before .before .loop in
+    let c3 = c .before .before .before in
+    let c6 = c3 .before .before .before in
+    let l = c6 .before .loop in
     λ r t. l .inv r
-    (items-turn (c .before .before .before .before .before .before .before .before .before .args .b) (l .holds) (stood (c .before .before .before .before .before .before)) (c .before .before .before .before .if1 .left) (rw (c .before .item .given .1) at (c .before .before .before .take-item .ensures)) r t)
+    (items-turn (c6 .before .before .before .args .b) (l .holds) (stood (c6)) (c3 .before .if1 .left) (rw (c .before .item .given .1) at (c3 .take-item .ensures)) r t)
 
 returns-3 : tie.Need-returns-3 Inv-loop μ-loop
 returns-3 c =

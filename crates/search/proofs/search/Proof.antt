@@ -15,11 +15,14 @@ run-requires c κs = let h = c .before .before .before .before .before .before .
 
 returns-2 : tie.Need-returns-2
 returns-2 c =
-    let n = c .before .before .before .before .before .before .before .before .before .before .before .before .before .before .before .before .before .slots-of in
-    let g = c .before .before .before .before .before .before .before .before .before .before .before .before .before .before .before .groups-of in
-    let s = c .before .before .before .before .before .before .before .before .before .before .before .before .initial in
-    let v = c .before .before .before .before .before .before .before .before .before .before .before .pack in
-    search-run (n .ensures .0) (let h = c .before .before .before .before .before .before .before .before .before .before .before .before .before .before .before .before .if1 .left in omega arith) (g .ensures) (s .ensures) (v .ensures) (c .before .before .before .before .before .before .before .before .store .ensures) (c .before .before .run .ensures)
+    let c8 = c .before .before .before .before .before .before .before .before in
+    let c11 = c8 .before .before .before in
+    let c15 = c11 .before .before .before .before in
+    let n = c15 .before .before .slots-of in
+    let g = c15 .groups-of in
+    let s = c11 .before .initial in
+    let v = c11 .pack in
+    search-run (n .ensures .0) (let h = c15 .before .if1 .left in omega arith) (g .ensures) (s .ensures) (v .ensures) (c8 .store .ensures) (c .before .before .run .ensures)
 
 pub search-spec : {M : Type 1} → statement M
 search-spec =

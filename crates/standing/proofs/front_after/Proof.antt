@@ -30,9 +30,10 @@ read-leaf-requires c κs = c .before .before .before .before .before .before .lo
 
 loop-again : tie.Need-loop-again Inv-loop μ-loop
 loop-again c =
-    let a = c .before .before .before .before .before .before .before .before .before .before .args in
-    let p = c .before .before .before .before .before .before .before .loop in
-    let n = c .before .before .before .before .before .before .before .before .before .least .result in
+    let c7 = c .before .before .before .before .before .before .before in
+    let a = c7 .before .before .before .args in
+    let p = c7 .loop in
+    let n = c7 .before .before .least .result in
     let list = a .from .now in
     let outcomes = outcomesAfter (a .mask) (a .rows .now) (a .lens .now) in (
       omega arith,

@@ -11,9 +11,12 @@ returns c = same-codes (c .exactly .ensures) (no-optional-codes (c .before .befo
 
 returns-2 : tie.Need-returns-2
 returns-2 c =
+    let c4 = c .before .before .before .before in
+    let c8 = c4 .before .before .before .before in
+    let c11 = c8 .before .before .before in
     same-codes
-    (then-added (then-added (then-added (then-added (c .before .before .before .before .before .before .before .before .copies .ensures) (c .before .before .before .before .before .before .push .ensures)) (c .before .before .before .before .push2 .ensures)) (c .before .before .closes .ensures)) (c .pushes .ensures))
-    (between-codes (c .before .before .before .before .before .before .before .before .before .before .before .args .least) (c .before .before .before .before .before .before .before .before .before .before .before .args .most) (c .before .before .before .before .before .before .before .before .before .before .if1 .left))
+    (then-added (then-added (then-added (then-added (c8 .copies .ensures) (c4 .before .before .push .ensures)) (c4 .push2 .ensures)) (c .before .before .closes .ensures)) (c .pushes .ensures))
+    (between-codes (c11 .args .least) (c11 .args .most) (c8 .before .before .if1 .left))
 
 pub between-spec : {M : Type 1} → statement M
 between-spec =
