@@ -50,7 +50,7 @@ impl Pattern {
 
     pub const FIRST_LEAF: u8 = 4;
 
-    pub const LAST_LEAF: u8 = 67;
+    pub const LAST_LEAF: u8 = Pattern::FIRST_LEAF + 63;
 
     // No parts and no leaves.
     pub fn empty() -> Pattern

@@ -8,7 +8,7 @@ use native.Mathlib.Omega.{arith}
 use native.Mathlib.Decide.{decLt}
 use lib.Dec.{eqb}
 use lib.Pow.{pow-pos, pow-lt, pow-add, pow-mono}
-use lib.Bits.{bitOr, bitAnd, or-step, or-shr, or-lt, and-step, and-shr}
+use lib.Bits.{bitOr, bitAnd, or-step, or-shr, and-step, and-shr}
 use borrow.Author.Tests.{eq-eqb, ne-eqb, lt-ltb}
 use Rattle.words.specs.Sets.{hasBit, withLeaf, withLeafIf}
 
@@ -56,9 +56,6 @@ pow-bit p q = go (decLt p q) (decLt q p)
 -- A number of 64 bits has no others.
 pub no-more : (x q : ℕ) → x < 18446744073709551616 → 64 ≤ q → hasBit x q ≡ false
 no-more x q h k = let e : x / 2 ^ q ≡ 0 = div-eq-of-lt (lt-of-lt-of-le {m = 2 ^ 64} h (pow-mono k)) in rw e
-
-pub union-few : (x y q : ℕ) → x < 18446744073709551616 → y < 18446744073709551616 → 64 ≤ q → hasBit (bitOr x y) q ≡ false
-union-few x y q h k l = no-more (bitOr x y) q (or-lt 64 x y h k) l
 
 -- The number with the one bit p, as the code makes it.
 pub shifted : (p : ℕ) → p < 64 → 1 * 2 ^ p % 18446744073709551616 ≡ 2 ^ p
