@@ -7,7 +7,7 @@ use mathlib.Core.List.{List}
 use lib.ListN.{length, getD}
 
 -- r is the first byte that has the mask of the byte b.
-pub record First (masks : List ℕ) (b r : ℕ) : Type 0 where
+pub record FirstAlike (masks : List ℕ) (b r : ℕ) : Type 0 where
   pub within : r ≤ b
   pub alike : getD masks r 0 ≡ getD masks b 0
   pub none : (k : ℕ) → k < r → getD masks k 0 ≡ getD masks b 0 → ⊥

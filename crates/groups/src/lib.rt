@@ -1,7 +1,7 @@
 // The byte groups of a pattern: bytes that no leaf tells apart.
 ghost use Prim.Native.Nat.{_+_, _<_};
 ghost use Rattle.groups.specs.Grouped.{Grouped};
-ghost use Rattle.groups.specs.Turns.{First, GroupedTo};
+ghost use Rattle.groups.specs.Turns.{FirstAlike, GroupedTo};
 
 pub struct Groups {
     // the group of each byte
@@ -14,7 +14,7 @@ pub struct Groups {
 // The first byte that has the mask of b: b itself, if no lower one has it.
 fn first_with(masks: &[u64; 256], b: usize) -> usize
     requires { ⌜ b < 256 ⌝ }
-    ensures { λ r. ⌜ First (now (masks .entry)) b r ⌝ }
+    ensures { λ r. ⌜ FirstAlike (now (masks .entry)) b r ⌝ }
 {
     let x = masks[b];
     let mut i = 0;

@@ -68,17 +68,17 @@ pub record AtomAt (p : List ℕ) (at : ℕ) : Type 0 where
   pub noClose : getD p at 0 ≢ 41
 
 -- What stands for any weight above the limit.
-abbrev pub tooHeavy : ℕ
-tooHeavy = 65
+abbrev pub aboveLimit : ℕ
+aboveLimit = maxWeight + 1
 
--- A part weighs w and its heaviest part h; c is w, or `tooHeavy` if one of them is above the limit.
+-- A part weighs w and its heaviest part h; c is w, or `aboveLimit` if one of them is above the limit.
 pub data Weighs (c w h : ℕ) : Type 0 where
   light : c ≡ w → w ≤ maxWeight → h ≤ maxWeight → Weighs c w h
-  heavy : c ≡ tooHeavy → maxWeight < max w h → Weighs c w h
+  heavy : c ≡ aboveLimit → maxWeight < max w h → Weighs c w h
 
 -- The weight of n copies of a part that weighs v.
 abbrev pub loadOf : ℕ → ℕ → ℕ
-loadOf n v = cond (eqb v tooHeavy) tooHeavy (min tooHeavy (times n v))
+loadOf n v = cond (eqb v aboveLimit) aboveLimit (min aboveLimit (times n v))
 
 -- The tokens of the parts of a sequence: none if it has none.
 unfoldable pub tokensOf : List Re → List Token

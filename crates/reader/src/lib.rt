@@ -7,7 +7,7 @@ ghost use mathlib.Core.List.{List, [], _∷_};
 ghost use lib.ListN.{length, getD};
 ghost use Rattle.grammar.specs.Limits.{maxBytes};
 ghost use Rattle.grammar.specs.Code.Codes.{emptyKind, sequenceKind, firstLeaf};
-ghost use Rattle.reader.specs.Steps.{isSpecial, tooHeavy, loadOf, Begun, Ready, AtomAt, AlternationRead, SequenceRead, AtomRead, RepeatRead, AddedIf, answerBy};
+ghost use Rattle.reader.specs.Steps.{isSpecial, aboveLimit, loadOf, Begun, Ready, AtomAt, AlternationRead, SequenceRead, AtomRead, RepeatRead, AddedIf, answerBy};
 ghost use Rattle.reader.specs.Reading.{ReadRight};
 ghost use Rattle.tokens.specs.Held.{Added};
 use arrays::Codes;
@@ -27,7 +27,7 @@ pub struct Reading {
     pub pattern: Pattern,
 }
 
-// What reading from a place finds: the place after it, and its weight, TOO_HEAVY for any above the limit; or the refusal.
+// What reading from a place finds: the place after it, and its weight, ABOVE_LIMIT for any above the limit; or the refusal.
 pub enum Part {
     Read { at: usize, weight: usize },
     Refused { number: u8, place: usize },
@@ -43,7 +43,7 @@ pub struct Step {
 const BRACE: u8 = b'{';
 
 // Stands for any weight above the limit.
-const TOO_HEAVY: usize = Pattern::MAX_WEIGHT + 1;
+const ABOVE_LIMIT: usize = Pattern::MAX_WEIGHT + 1;
 
 fn found(at: usize, weight: usize, len: usize) -> Step
     ensures { λ r. ⌜ r ≡ record { part = Part.Read at weight; len = len } ⌝ }
@@ -70,10 +70,10 @@ fn refused(number: u8, place: usize, len: usize) -> Step
 }
 
 fn plus(a: usize, b: usize) -> usize
-    requires { ⌜ (a ≤ tooHeavy) × (b ≤ tooHeavy) ⌝ }
-    ensures { λ r. ⌜ r ≡ min tooHeavy (a + b) ⌝ }
+    requires { ⌜ (a ≤ aboveLimit) × (b ≤ aboveLimit) ⌝ }
+    ensures { λ r. ⌜ r ≡ min aboveLimit (a + b) ⌝ }
 {
-    words::least(a + b, TOO_HEAVY)
+    words::least(a + b, ABOVE_LIMIT)
 }
 
 fn one_at_least(w: usize) -> usize
@@ -84,16 +84,16 @@ fn one_at_least(w: usize) -> usize
 
 // The weight of that many copies; a part above the limit stays so, even under {0}.
 fn load(times: usize, weight: usize) -> usize
-    requires { ⌜ (times ≤ 64) × (weight ≤ tooHeavy) ⌝ }
+    requires { ⌜ (times ≤ 64) × (weight ≤ aboveLimit) ⌝ }
     ensures { λ r. ⌜ r ≡ loadOf times weight ⌝ }
 {
-    if weight == TOO_HEAVY {
-        return TOO_HEAVY;
+    if weight == ABOVE_LIMIT {
+        return ABOVE_LIMIT;
     }
     if times == 0 {
         return 1;
     }
-    words::least(times * weight, TOO_HEAVY)
+    words::least(times * weight, ABOVE_LIMIT)
 }
 
 // An empty sequence is a part of its own.
@@ -120,7 +120,7 @@ fn push_if_more(a: &mut Codes, len: usize, w: usize) -> usize
 
 // The count after an atom that weighs `weight` and whose codes begin at `from`.
 fn counted(s: &[u8], at: usize, weight: usize, a: &mut Codes, len: usize, from: usize) -> Step
-    requires { ⌜ Ready (now s) at × (at < length (now s)) × (getD (now s) at 0 ≡ 123) × (weight ≤ tooHeavy) ⌝ }
+    requires { ⌜ Ready (now s) at × (at < length (now s)) × (getD (now s) at 0 ≡ 123) × (weight ≤ aboveLimit) ⌝ }
     ensures { λ r. ⌜ RepeatRead (now (s .entry)) at weight (now (a .entry)) len from (now (a .exit)) (r .len) (r .part) ⌝ }
 {
     let count = scanner::read_count(s, at + 1);
@@ -143,7 +143,7 @@ fn counted(s: &[u8], at: usize, weight: usize, a: &mut Codes, len: usize, from: 
 
 // The repeat after an atom, or none.
 fn repeat(s: &[u8], at: usize, weight: usize, a: &mut Codes, len: usize, from: usize) -> Step
-    requires { ⌜ Ready (now s) at × (weight ≤ tooHeavy) ⌝ }
+    requires { ⌜ Ready (now s) at × (weight ≤ aboveLimit) ⌝ }
     ensures { λ r. ⌜ RepeatRead (now (s .entry)) at weight (now (a .entry)) len from (now (a .exit)) (r .len) (r .part) ⌝ }
 {
     if at == s.len() {
