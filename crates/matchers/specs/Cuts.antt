@@ -5,7 +5,6 @@ use Prim.Native.Nat.{ℕ}
 use mathlib.Core.List.{List}
 use Rattle.theory.specs.Pattern.{Re}
 use Rattle.theory.specs.Spans.{Span, nowhere, span, greedy, posix}
-use Rattle.theory.specs.Lines.{Below}
 use Rattle.standing.specs.Stands.{Arrays, Lent}
 use Rattle.matchers.specs.declared.Spans.{Spans}
 use Rattle.matchers.specs.declared.Spans.the-variants.{Nowhere, Located}
@@ -26,4 +25,4 @@ pub record Cut (r : Re) (w : List ℕ) (s : Spans) : Type 0 where
 
 -- The same for the pattern whose arrays are lent.
 pub record Cuts (a : Arrays) (w : List ℕ) (s : Spans) : Type 0 where
-  pub cut : {r : Re} → Lent r a → Below 256 w → Cut r w s
+  pub cut : {r : Re} → Lent r a → Cut r w s

@@ -1,11 +1,9 @@
 -- What is replied is what is due.
 -- Assumes nothing.
 use mathlib.Core.Path.{_≡_, refl, subst}
-use Prim.Native.Nat.{ℕ, _<_}
+use Prim.Native.Nat.{ℕ}
 use mathlib.Core.List.{List}
 use native.Mathlib.Omega.{arith}
-use lib.ListN.{getD}
-use Rattle.theory.proofs.Lines.{below-each}
 use Rattle.grammar.specs.WriteOut.{writeOut}
 use Rattle.grammar.specs.Refusals as Due
 use Rattle.arrays.specs.declared.Pattern.{Pattern}
@@ -49,8 +47,8 @@ replied {p} {w} r s h a b = record {
 }
 
 -- THE REPLY IS THE ONE DUE: of an accepted pattern both spans by its arrays,
-pub replied-accepted : {p w : List ℕ} (r : Reading) (s : Spans) → ReadRight p r → r .answer ≡ Accepted → CutBy (r .pattern) w s → ((i : ℕ) → getD w i 0 < 256) → Replied p w (record { answer = r .answer; spans = s })
-replied-accepted {w = w} r s h e k l = replied r s h (λ f. k .cut (accepted-leaves h e .0) (accepted-leaves h e .1) (accepted-holds h e) (below-each 256 w l)) (λ n q f. absurd (apart e f))
+pub replied-accepted : {p w : List ℕ} (r : Reading) (s : Spans) → ReadRight p r → r .answer ≡ Accepted → CutBy (r .pattern) w s → Replied p w (record { answer = r .answer; spans = s })
+replied-accepted r s h e k = replied r s h (λ f. k .cut (accepted-leaves h e .0) (accepted-leaves h e .1) (accepted-holds h e)) (λ n q f. absurd (apart e f))
 
 -- and of a refused one none.
 pub replied-refused : {p w : List ℕ} {n q : ℕ} (r : Reading) → ReadRight p r → r .answer ≡ Refused n q

@@ -5,7 +5,6 @@ use Prim.Native.Nat.{ℕ, _≤_}
 use mathlib.Core.List.{List}
 use Rattle.theory.specs.Pattern.{count, Numbered}
 use Rattle.theory.specs.Spans.{Span, greedy, posix}
-use Rattle.theory.specs.Lines.{Below}
 use Rattle.grammar.specs.WriteOut.{writeOut}
 use Rattle.grammar.specs.Refusals.{Right}
 use Rattle.grammar.specs.Refusals as Due
@@ -48,4 +47,4 @@ pub record Replied (p w : List ℕ) (r : Reply) : Type 0 where
 
 -- Both spans, for arrays that are those of a pattern.
 pub record CutBy (x : Pattern) (w : List ℕ) (s : Spans) : Type 0 where
-  pub cut : Numbered 0 (decode x) → count (decode x) ≤ 64 → HoldsPattern x (decode x) → Below 256 w → Cut (decode x) w s
+  pub cut : Numbered 0 (decode x) → count (decode x) ≤ 64 → HoldsPattern x (decode x) → Cut (decode x) w s

@@ -1,10 +1,8 @@
 -- The numbers that the library hands over are the answers of the readings and of the reader.
 -- Assumes nothing.
 use mathlib.Core.Path.{_≡_, sym, ap, _∙_, subst}
-use Prim.Native.Nat.{ℕ, _<_}
+use Prim.Native.Nat.{ℕ}
 use mathlib.Core.List.{List, [], _∷_}
-use lib.ListN.{getD}
-use Rattle.theory.proofs.Lines.{below-each}
 use Rattle.arrays.specs.Decoded.{decode}
 use Rattle.follow.specs.Rows.{Right}
 use Rattle.follow.specs.declared.Tables.{Tables}
@@ -31,12 +29,12 @@ prepared-ready {r = r} {t = t} h e f =
 pub prepared-refused : {p : List ℕ} {n k : ℕ} {r : Reading} {old : Arrays} → ReadRight p r → r .answer ≡ Refused n k → Prepared p old (record { number = n; place = k }) old
 prepared-refused h e = refused (refused-fault h e)
 
-module _ {t : Arrays} {w : List ℕ} {s : Spans} (cut : Matchers.Cuts t w s) (bytes : (i : ℕ) → getD w i 0 < 256) {old : List ℕ} where
+module _ {t : Arrays} {w : List ℕ} {s : Spans} (cut : Matchers.Cuts t w s) {old : List ℕ} where
   -- No span,
   pub cuts-none : s ≡ Nowhere → Cuts t w old 0 old
   cuts-none e = record {
     cut = λ l.
-        let both = cut .cut l (below-each 256 w bytes) in
+        let both = cut .cut l in
         none (sym (both .greedily) ∙ ap greedyOf e) (sym (both .longest) ∙ ap posixOf e);
   }
 
@@ -44,6 +42,6 @@ module _ {t : Arrays} {w : List ℕ} {s : Spans} (cut : Matchers.Cuts t w s) (by
   pub cuts-both : {i j k : ℕ} → s ≡ Located i j k → Cuts t w old 1 (i ∷ j ∷ k ∷ [])
   cuts-both e = record {
     cut = λ l.
-        let both = cut .cut l (below-each 256 w bytes) in
+        let both = cut .cut l in
         located (sym (both .greedily) ∙ ap greedyOf e) (sym (both .longest) ∙ ap posixOf e);
   }

@@ -1,6 +1,5 @@
 -- `readings::cut_line` meets its contract: what it replies is what is due.
 -- Assumes nothing.
-use native.Mathlib.Omega.{arith}
 use borrow.Author.Needs.{needs}
 use Rattle.readings.proofs.Replying.{replied-accepted, replied-refused}
 use Rattle.readings.proofs.cut_line.Statement.{statement}
@@ -14,7 +13,7 @@ returns c =
 returns-2 : tie.Need-returns-2
 returns-2 c =
     let r = c .before .before .before .before .read in
-    replied-accepted (r .result) (c .spans-by .result) (r .ensures) (c .before .before .enum-told .given .1) (c .spans-by .ensures) (λ i. omega (arith, c .before .before .before .before .before .shared-slice-known2 .given i))
+    replied-accepted (r .result) (c .spans-by .result) (r .ensures) (c .before .before .enum-told .given .1) (c .spans-by .ensures)
 
 pub cut-line-spec : {M : Type 1} → statement M
 cut-line-spec =
