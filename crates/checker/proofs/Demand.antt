@@ -6,7 +6,6 @@ use Prim.Native.Nat.{ℕ, _≤_}
 use mathlib.Core.List.{List}
 use native.Mathlib.Omega.{arith}
 use lib.ListN.{length, take, drop}
-use Rattle.theory.specs.Lines.{_≺_}
 use Rattle.grammar.specs.Grammar.{Alternation}
 use Rattle.grammar.specs.Limits.{Reads}
 use Rattle.grammar.specs.Refusals.{Fault}
@@ -56,16 +55,16 @@ module _ (p t v : List ℕ) (x : Verdict) (t′ v′ : List ℕ) (h : Checks p t
 
   module _ (a : Alternation) (reads : Reads p a) where
     -- ALIKE: no sequence of bytes, however long, is cut differently, and the count is the number of distinct standings.
-    pub check-alike : {n : ℕ} → x ≡ Alike n → NoneCut (writeOut a) × Number (writeOut a) (λ u. Unit {0}) n
+    pub check-alike : {n : ℕ} → x ≡ Alike n → NoneCut (writeOut a) × Number (writeOut a) n
     check-alike e = alike-means a reads (subst (λ y. Checks p t v y t′ v′) e h)
 
     -- UNLIKE: the sequence handed over, the first k bytes of the witness buffer, is cut differently, and every other that is cut differently is longer, or as long and
-    -- later in byte order; the count is the number of distinct standings up to and including its own; the rest of the buffer is kept.
+    -- later in byte order; the count is the number of distinct standings of the lines that none of these comes before; the rest of the buffer is kept.
     pub check-unlike : {n k : ℕ} → x ≡ Unlike n k
-        → FirstCut (writeOut a) (take k v′) × Number (writeOut a) (λ u. (u ≡ take k v′) ⊎ (u ≺ take k v′)) n × (length (take k v′) ≡ k) × (drop k v′ ≡ drop k v)
+        → FirstCut (writeOut a) (take k v′) × Number (writeOut a) n × (length (take k v′) ≡ k) × (drop k v′ ≡ drop k v)
     check-unlike e = unlike-means a reads (subst (λ y. Checks p t v y t′ v′) e h)
 
-    -- WITHHELD: 10 exactly if the distinct standings outnumber the slots; 11 exactly if they do not, and the first line cut differently is longer than the buffer.
+    -- WITHHELD: 10 exactly if the distinct standings of the lines that no line cut differently comes before outnumber the slots; 11 exactly if they do not, and the first line cut differently is longer than the buffer.
     pub check-ten : (x ≡ Refused 10 0) ↔ Outnumber (writeOut a) (slots (length t))
     check-ten = (
       λ e. ten-exactly a reads .0 (t′, v′, subst (λ y. Checks p t v y t′ v′) e h),

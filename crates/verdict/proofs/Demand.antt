@@ -5,7 +5,7 @@ use mathlib.Core.Logic.{_⊎_, inl, inr, _↔_}
 use Prim.Native.Nat.{ℕ, _≤_}
 use mathlib.Core.List.{List}
 use lib.ListN.{length, take, drop}
-use Rattle.theory.specs.Lines.{Below, _≺_}
+use Rattle.theory.specs.Lines.{Below}
 use Rattle.theory.proofs.Tests.{either}
 use Rattle.grammar.specs.Grammar.{Alternation}
 use Rattle.grammar.specs.Limits.{Reads}
@@ -37,15 +37,17 @@ module _ {p t v : List ℕ} where
 
   module _ (a : Alternation) (i : Reads p a) where
     -- ALIKE: no sequence of bytes, of any length, is cut differently; the count is the number of distinct standings.
-    pub alike-means : {n : ℕ} {t′ v′ : List ℕ} → Checked p t v (whole (alike n) t′ v′) → NoneCut (writeOut a) × Number (writeOut a) (λ u. Unit {0}) n
+    pub alike-means : {n : ℕ} {t′ v′ : List ℕ} → Checked p t v (whole (alike n) t′ v′) → NoneCut (writeOut a) × Number (writeOut a) n
     alike-means c = alike-promise (checked-found c) a i
 
-    -- UNLIKE: the witness handed over, the first k bytes of the buffer, is cut differently, and every other line that is cut differently is longer, or as long and later in byte order; the count is the number of distinct standings of the lines up to and including it; the rest of the buffer is kept.
+    -- UNLIKE: the witness handed over, the first k bytes of the buffer, is cut differently, and every other line that is cut differently is longer, or as long and
+    -- later in byte order; the count is the number of distinct standings of the lines that none of these comes before; the rest of the buffer is kept.
     pub unlike-means : {n k : ℕ} {t′ v′ : List ℕ} → Checked p t v (whole (unlike n k) t′ v′)
-        → FirstCut (writeOut a) (take k v′) × Number (writeOut a) (λ u. (u ≡ take k v′) ⊎ (u ≺ take k v′)) n × (length (take k v′) ≡ k) × (drop k v′ ≡ drop k v)
+        → FirstCut (writeOut a) (take k v′) × Number (writeOut a) n × (length (take k v′) ≡ k) × (drop k v′ ≡ drop k v)
     unlike-means c = unlike-promise (checked-found c) a i
 
-    -- WITHHELD: exactly if the distinct standings up to and including the first witness's outnumber the slots (10), or else the first line cut differently is longer than the buffer (11).
+    -- WITHHELD: exactly if the distinct standings of the lines that no line cut differently comes before outnumber the slots (10), or else the first line cut
+    -- differently is longer than the buffer (11).
     pub ten-exactly : RefusedBy p t v 10 ↔ Outnumber (writeOut a) (slots (length t))
     ten-exactly = (λ c. ten a i .0 (to c), λ o. back (ten a i .1 o))
 

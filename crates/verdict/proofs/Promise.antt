@@ -8,7 +8,6 @@ use native.Mathlib.Omega.{arith}
 use lib.ListN.{length, take, drop}
 use lib.Seq.{take-append-seam, drop-append-seam}
 use Rattle.theory.specs.Pattern.{Re}
-use Rattle.theory.specs.Lines.{_≺_}
 use Rattle.theory.specs.Code.Search.{SearchEnd, alike, unlike, full}
 use Rattle.theory.proofs.Run.{check}
 use Rattle.theory.proofs.Tests.{either}
@@ -25,7 +24,7 @@ use Rattle.verdict.specs.Code.Found.{Found, not-read, same-cuts, first-w
 use Rattle.verdict.specs.Demand.{NoneCut, FirstCut, Number, Outnumber, Longer}
 use Rattle.verdict.proofs.Tables.{records-size, slots-fit, onto-length}
 use Rattle.theory.proofs.Lines.{snoc-size}
-use Rattle.verdict.proofs.Words.{alike-none, first-cut, first-unique, alike-number, unlike-number, full-outnumbers, alike-enough, unlike-enough}
+use Rattle.verdict.proofs.Words.{alike-none, first-cut, first-unique, alike-number, unlike-number, full-outnumbers, enough}
 
 -- The reader's refusals are 1 to 8.
 wrong-number : {o : Before} {s : List ℕ} {n : ℕ} → Wrong o s n → n ≤ 8
@@ -52,21 +51,22 @@ fits : (t : List ℕ) (r : Re) (L : List (List ℕ)) → length L ≤ slots (len
 fits t r L h = onto-length t (records r L) (omega (arith, records-size r L L, slots-fit (length t)))
 
 module _ {p t v : List ℕ} where
-  -- ALIKE: no sequence of bytes of any length is cut differently, and the count is the number of distinct standings.
+  -- Alike: no sequence of bytes of any length is cut differently, and the count is the number of distinct standings.
   pub alike-promise : {n : ℕ} {t′ v′ : List ℕ} → Found p t v (same n) t′ v′ → (a : Alternation) → Reads p a
-      → NoneCut (writeOut a) × Number (writeOut a) (λ u. Unit {0}) n
+      → NoneCut (writeOut a) × Number (writeOut a) n
   alike-promise (not-read f e g h) a i = absurd (let z : _≡_ {A = ℕ} 0 1 = cc in omega arith)
   alike-promise {n} (same-cuts {a = b} {L = L} h c l e f g) a i =
       let m : n ≡ length L = cc in
-      subst (λ x. NoneCut (writeOut x) × Number (writeOut x) (λ u. Unit {0}) n) (unambiguous p b a h i)
+      subst (λ x. NoneCut (writeOut x) × Number (writeOut x) n) (unambiguous p b a h i)
       (alike-none (writeOut b) (writeOut-numbered b) c, rw m (alike-number (writeOut b) (writeOut-numbered b) c))
   alike-promise (first-witness h c l k e f g) a i = absurd (let z : _≡_ {A = ℕ} 0 1 = cc in omega arith)
   alike-promise (no-slot h c l e f g) a i = absurd (let z : _≡_ {A = ℕ} 0 1 = cc in omega arith)
   alike-promise (no-room h c l k e f g) a i = absurd (let z : _≡_ {A = ℕ} 0 1 = cc in omega arith)
 
-  -- UNLIKE: the first k bytes of the witness buffer are the first line cut differently, the rest of it is kept, and the count is the number of the distinct standings of the lines up to and including that one.
+  -- Unlike: the first k bytes of the witness buffer are the first line cut differently, the rest of it is kept, and the count is the number of the distinct standings
+  -- of the lines that no line cut differently comes before.
   pub unlike-promise : {n k : ℕ} {t′ v′ : List ℕ} → Found p t v (differ n k) t′ v′ → (a : Alternation) → Reads p a
-      → FirstCut (writeOut a) (take k v′) × Number (writeOut a) (λ u. (u ≡ take k v′) ⊎ (u ≺ take k v′)) n × (length (take k v′) ≡ k) × (drop k v′ ≡ drop k v)
+      → FirstCut (writeOut a) (take k v′) × Number (writeOut a) n × (length (take k v′) ≡ k) × (drop k v′ ≡ drop k v)
   unlike-promise (not-read f e g h) a i = absurd (let z : _≡_ {A = ℕ} 0 1 = cc in omega arith)
   unlike-promise (same-cuts h c l e f g) a i = absurd (let z : _≡_ {A = ℕ} 0 1 = cc in omega arith)
   unlike-promise {n} {k} {t′} {v′} (first-witness {a = b} {L = L} {w = w} h c l j e f g) a i =
@@ -74,14 +74,14 @@ module _ {p t v : List ℕ} where
       let s : k ≡ length w = cc in
       let x : take k v′ ≡ w = ap₂ take s g ∙ take-append-seam w (drop (length w) v) in
       let y : drop k v′ ≡ drop k v = ap₂ drop s g ∙ drop-append-seam w (drop (length w) v) ∙ ap (λ o. drop o v) (sym s) in
-      subst (λ z. FirstCut (writeOut z) (take k v′) × Number (writeOut z) (λ u. (u ≡ take k v′) ⊎ (u ≺ take k v′)) n × (length (take k v′) ≡ k) × (drop k v′ ≡ drop k v)) (unambiguous p b a h i)
-      (subst (λ z. FirstCut (writeOut b) z × Number (writeOut b) (λ u. (u ≡ z) ⊎ (u ≺ z)) n × (length z ≡ k) × (drop k v′ ≡ drop k v)) (sym x)
+      subst (λ z. FirstCut (writeOut z) (take k v′) × Number (writeOut z) n × (length (take k v′) ≡ k) × (drop k v′ ≡ drop k v)) (unambiguous p b a h i)
+      (subst (λ z. FirstCut (writeOut b) z × Number (writeOut b) n × (length z ≡ k) × (drop k v′ ≡ drop k v)) (sym x)
       (first-cut (writeOut b) (writeOut-numbered b) c, rw m (unlike-number (writeOut b) (writeOut-numbered b) c), sym s, y))
   unlike-promise (no-slot h c l e f g) a i = absurd (let z : _≡_ {A = ℕ} 0 1 = cc in omega arith)
   unlike-promise (no-room h c l k e f g) a i = absurd (let z : _≡_ {A = ℕ} 0 1 = cc in omega arith)
 
   module _ (a : Alternation) (i : Reads p a) where
-    -- 10 EXACTLY IF the distinct standings up to and including the first witness's outnumber the slots.
+    -- 10 exactly if the distinct standings of those lines outnumber the slots.
     pub ten-only : Refused p t v 10 → Outnumber (writeOut a) (slots (length t))
     ten-only (t′, v′, not-read {n = n} {q = q} f e g h) = absurd (not-both p a n q i f)
     ten-only (t′, v′, same-cuts h c l e f g) = absurd (let z : _≡_ {A = ℕ} 0 1 = cc in omega arith)
@@ -94,14 +94,14 @@ module _ {p t v : List ℕ} where
     ten-if o = go (check (writeOut a) (writeOut-numbered a) (slots (length t)))
       where
         go : SearchEnd (writeOut a) (slots (length t)) → Refused p t v 10
-        go (alike L h c) = absurd (alike-enough (writeOut a) (writeOut-numbered a) c h o)
-        go (unlike L w h c) = absurd (unlike-enough (writeOut a) (writeOut-numbered a) c h o)
+        go (alike L h c) = absurd (enough (writeOut a) (writeOut-numbered a) (alike-number (writeOut a) (writeOut-numbered a) c) h o)
+        go (unlike L w h c) = absurd (enough (writeOut a) (writeOut-numbered a) (unlike-number (writeOut a) (writeOut-numbered a) c) h o)
         go (full L h c) = (onto t (records (writeOut a) L), v, no-slot i c h refl refl refl)
 
     pub ten : Refused p t v 10 ↔ Outnumber (writeOut a) (slots (length t))
     ten = (ten-only, ten-if)
 
-    -- 11 EXACTLY IF they do not, and the first line cut differently is longer than the buffer.
+    -- 11 exactly if they do not, and the first line cut differently is longer than the buffer.
     pub eleven-only : Refused p t v 11 → (Outnumber (writeOut a) (slots (length t)) → ⊥) × Longer (writeOut a) (length v)
     eleven-only (t′, v′, not-read {n = n} {q = q} f e g h) = absurd (not-both p a n q i f)
     eleven-only (t′, v′, same-cuts h c l e f g) = absurd (let z : _≡_ {A = ℕ} 0 1 = cc in omega arith)
@@ -109,7 +109,7 @@ module _ {p t v : List ℕ} where
     eleven-only (t′, v′, no-slot h c l e f g) = absurd (let z : _≡_ {A = ℕ} 11 10 = cc in omega arith)
     eleven-only (t′, v′, no-room {a = b} {w = w} h c l k e f g) =
         subst (λ x. (Outnumber (writeOut x) (slots (length t)) → ⊥) × Longer (writeOut x) (length v)) (unambiguous p b a h i)
-        (unlike-enough (writeOut b) (writeOut-numbered b) c l, (w, first-cut (writeOut b) (writeOut-numbered b) c, k))
+        (enough (writeOut b) (writeOut-numbered b) (unlike-number (writeOut b) (writeOut-numbered b) c) l, (w, first-cut (writeOut b) (writeOut-numbered b) c, k))
 
     -- Where the first line cut differently is too long, the verdict is withheld.
     too-long : Longer (writeOut a) (length v) → Refused p t v 10 ⊎ Refused p t v 11
@@ -125,7 +125,7 @@ module _ {p t v : List ℕ} where
     pub eleven : Refused p t v 11 ↔ ((Outnumber (writeOut a) (slots (length t)) → ⊥) × Longer (writeOut a) (length v))
     eleven = (eleven-only, λ h. either (λ x. absurd (h .0 (ten-only x))) (λ x. x) (too-long (h .1)))
 
-    -- A VERDICT IS WITHHELD EXACTLY IF the distinct standings outnumber the slots, or the first line cut differently is longer than the buffer.
+    -- A verdict is withheld exactly if the distinct standings outnumber the slots, or the first line cut differently is longer than the buffer.
     pub withheld : (Refused p t v 10 ⊎ Refused p t v 11) ↔ (Outnumber (writeOut a) (slots (length t)) ⊎ Longer (writeOut a) (length v))
     withheld = (
       either (λ x. inl (ten-only x)) (λ x. inr (eleven-only x .1)),

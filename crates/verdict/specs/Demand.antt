@@ -5,9 +5,8 @@ use mathlib.Core.Logic.{_⊎_, _≢_}
 use Prim.Native.Nat.{ℕ, suc, _<_}
 use mathlib.Core.List.{List}
 use lib.ListN.{length}
-use lib.Dec.{T}
 use Rattle.theory.specs.Pattern.{Re}
-use Rattle.theory.specs.Standing.{standing, isWitness}
+use Rattle.theory.specs.Standing.{standing}
 use Rattle.theory.specs.Spans.{CutDifferently}
 use Rattle.theory.specs.Lines.{Below, _≺_}
 use Rattle.theory.specs.Records.{at}
@@ -22,26 +21,26 @@ pub record FirstCut (r : Re) (w : List ℕ) : Type 0 where
   pub cut : CutDifferently r w
   pub first : (u : List ℕ) → Below 256 u → CutDifferently r u → (u ≡ w) ⊎ (w ≺ u)
 
--- M has n lines of bytes that P holds of, with distinct standings.
-pub record Distinct (r : Re) (P : List ℕ → Type 0) (n : ℕ) (M : List (List ℕ)) : Type 0 where
+-- No line before u is cut differently: the standing of u is one of those that get a record.
+abbrev pub Needed : Re → List ℕ → Type 0
+Needed r u = (w : List ℕ) → Below 256 w → w ≺ u → CutDifferently r w → ⊥
+
+-- M has n lines of bytes that no line cut differently comes before, with distinct standings.
+pub record Distinct (r : Re) (n : ℕ) (M : List (List ℕ)) : Type 0 where
   pub size : length M ≡ n
   pub bytes : (k : ℕ) → k < n → Below 256 (at M k)
-  pub among : (k : ℕ) → k < n → P (at M k)
+  pub needed : (k : ℕ) → k < n → Needed r (at M k)
   pub distinct : (j k : ℕ) → j < k → k < n → standing r (at M j) ≢ standing r (at M k)
 
--- The lines of bytes that P holds of have n distinct standings in all.
-pub record Number (r : Re) (P : List ℕ → Type 0) (n : ℕ) : Type 0 where
+-- The lines of bytes that no line cut differently comes before have n distinct standings in all.
+pub record Number (r : Re) (n : ℕ) : Type 0 where
   pub lines : List (List ℕ)
-  pub are : Distinct r P n lines
-  pub every : (u : List ℕ) → Below 256 u → P u → (k : ℕ) × (k < n) × (standing r (at lines k) ≡ standing r u)
-
--- No witness comes before the line u: its standing is one of those that get a record.
-abbrev pub Needed : Re → List ℕ → Type 0
-Needed r u = (w : List ℕ) → Below 256 w → w ≺ u → T (isWitness (standing r w)) → ⊥
+  pub are : Distinct r n lines
+  pub every : (u : List ℕ) → Below 256 u → Needed r u → (k : ℕ) × (k < n) × (standing r (at lines k) ≡ standing r u)
 
 -- The distinct standings that get a record outnumber n.
 abbrev pub Outnumber : Re → ℕ → Type 0
-Outnumber r n = (M : List (List ℕ)) × Distinct r (Needed r) (suc n) M
+Outnumber r n = (M : List (List ℕ)) × Distinct r (suc n) M
 
 -- The first line cut differently is longer than n.
 abbrev pub Longer : Re → ℕ → Type 0
