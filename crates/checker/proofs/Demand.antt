@@ -1,11 +1,13 @@
 -- Demands 1 and 3 in their words, about the result of `check` and the content of both buffers.
 -- Assumes nothing.
 use mathlib.Core.Path.{_≡_, refl, ap, ap₂, _∙_, subst}
-use mathlib.Core.Logic.{_⊎_, inl, inr, _↔_}
+use mathlib.Core.Logic.{_⊎_, inl, inr, _↔_, Iff·trans}
 use Prim.Native.Nat.{ℕ, _≤_}
 use mathlib.Core.List.{List}
 use native.Mathlib.Omega.{arith}
 use lib.ListN.{length, take, drop}
+use Rattle.theory.specs.Preference.{Robust}
+use Rattle.theory.proofs.Tests.{either}
 use Rattle.grammar.specs.Grammar.{Alternation}
 use Rattle.grammar.specs.Limits.{Reads}
 use Rattle.grammar.specs.Refusals.{Fault}
@@ -14,10 +16,10 @@ use Rattle.verdict.specs.Table.{slots}
 use Rattle.verdict.specs.Checked.{Result, refused, Whole, whole, Checked, by-reader}
 use Rattle.verdict.specs.Demand.{NoneCut, FirstCut, Number, Outnumber, Longer}
 use Rattle.verdict.specs.Code.Found.{Found, not-read, same-cuts, first-witness, no-slot, no-room}
-use Rattle.grammar.proofs.Right.{not-both}
+use Rattle.grammar.proofs.Right.{either-way, not-both}
 use Rattle.verdict.proofs.Checked.{checked-one, checked-found}
-use Rattle.verdict.proofs.One.{found}
-use Rattle.verdict.proofs.Demand.{checked-is, alike-means, unlike-means, ten-exactly, eleven-exactly, refused-means, lengths-kept}
+use Rattle.verdict.proofs.Promise.{fault-number}
+use Rattle.verdict.proofs.Demand.{RefusedBy, checked-is, none-robust, alike-means, unlike-means, ten-exactly, eleven-exactly, withheld-exactly, refused-means, lengths-kept}
 use Rattle.checker.specs.declared.Verdict.{Verdict}
 use Rattle.checker.specs.declared.Verdict.the-variants.{Alike, Unlike, Refused}
 use Rattle.checker.specs.Verdicts.{resultOf, Checks}
@@ -29,9 +31,13 @@ refused-case (Unlike m k) e = absurd (let z : _≡_ {A = ℕ} 0 1 = cc in omega 
 refused-case {n} {q} (Refused m k) e = let a : m ≡ n = cc in let b : k ≡ q = cc in rw (a, b)
 
 module _ (p t v : List ℕ) (x : Verdict) (t′ v′ : List ℕ) (h : Checks p t v x t′ v′) where
-  -- THE RESULT AND BOTH BUFFERS ARE THE ONES COMPUTED FROM THE DEFINITION: one equation, for every pattern, table and buffer.
-  pub check-is : found p t v ≡ whole (resultOf x) t′ v′
-  check-is = checked-is p t v (resultOf x) t′ v′ .0 h
+  -- The promise, of a verdict that is known.
+  right : {y : Verdict} → x ≡ y → Checks p t v y t′ v′
+  right e = subst (λ y. Checks p t v y t′ v′) e h
+
+  -- THE RESULT AND BOTH BUFFERS ARE THE ONES THAT ARE RIGHT: for every pattern, table and buffer, exactly these.
+  pub check-is : (z : Whole) → Checked p t v z ↔ (z ≡ whole (resultOf x) t′ v′)
+  check-is = checked-is h
 
   one-result : {n q : ℕ} {t″ v″ : List ℕ} → Checked p t v (whole (refused n q) t″ v″) → x ≡ Refused n q
   one-result {n} {q} {t″} {v″} c = refused-case x (ap (λ w. result w) (checked-one h c))
@@ -39,15 +45,23 @@ module _ (p t v : List ℕ) (x : Verdict) (t′ v′ : List ℕ) (h : Checks p t
       result : Whole → Result
       result (whole y a b) = y
 
+  -- A refusal at place 0 is the verdict exactly if it is right.
+  refusal : {n : ℕ} → (x ≡ Refused n 0) ↔ RefusedBy p t v n
+  refusal = (λ e. (t′, v′, right e), λ (t″, v″, c). one-result c)
+
   -- REFUSED WITH 1 TO 8 exactly for the pattern's fault, and then both buffers keep every byte.
   pub check-refused : {n q : ℕ} → n ≤ 8 → (x ≡ Refused n q) ↔ Fault p n q
-  check-refused l = (
-    λ e. refused-means (subst (λ y. Checks p t v y t′ v′) e h) l .0,
-    λ f. one-result (by-reader f),
-  )
+  check-refused l = (λ e. refused-means (right e) l .0, λ f. one-result (by-reader f))
 
   pub check-kept : {n q : ℕ} → n ≤ 8 → x ≡ Refused n q → (t′ ≡ t) × (v′ ≡ v)
-  check-kept l e = let (f, g, k) = refused-means (subst (λ y. Checks p t v y t′ v′) e h) l in (g, k)
+  check-kept l e = let (f, g, k) = refused-means (right e) l in (g, k)
+
+  -- REFUSED WITH 1 TO 8 exactly where there is no tree within the limits.
+  pub check-refuses : ((n q : ℕ) × (n ≤ 8) × (x ≡ Refused n q)) ↔ ((a : Alternation) → Reads p a → ⊥)
+  check-refuses = (
+    λ (n, q, l, e) a i. not-both p a n q i (check-refused l .0 e),
+    λ none. either (λ (a, i). absurd (none a i)) (λ (n, q, f). (n, q, fault-number f, one-result (by-reader f))) (either-way p),
+  )
 
   -- The buffers keep their lengths.
   pub check-lengths : (length t′ ≡ length t) × (length v′ ≡ length v)
@@ -56,26 +70,37 @@ module _ (p t v : List ℕ) (x : Verdict) (t′ v′ : List ℕ) (h : Checks p t
   module _ (a : Alternation) (reads : Reads p a) where
     -- ALIKE: no sequence of bytes, however long, is cut differently, and the count is the number of distinct standings.
     pub check-alike : {n : ℕ} → x ≡ Alike n → NoneCut (writeOut a) × Number (writeOut a) n
-    check-alike e = alike-means a reads (subst (λ y. Checks p t v y t′ v′) e h)
+    check-alike e = alike-means a reads (right e)
 
     -- UNLIKE: the sequence handed over, the first k bytes of the witness buffer, is cut differently, and every other that is cut differently is longer, or as long and
     -- later in byte order; the count is the number of distinct standings of the lines that none of these comes before; the rest of the buffer is kept.
     pub check-unlike : {n k : ℕ} → x ≡ Unlike n k
         → FirstCut (writeOut a) (take k v′) × Number (writeOut a) n × (length (take k v′) ≡ k) × (drop k v′ ≡ drop k v)
-    check-unlike e = unlike-means a reads (subst (λ y. Checks p t v y t′ v′) e h)
+    check-unlike e = unlike-means a reads (right e)
 
-    -- WITHHELD: 10 exactly if the distinct standings of the lines that no line cut differently comes before outnumber the slots; 11 exactly if they do not, and the first line cut differently is longer than the buffer.
+    -- ROBUST by source 000's Definition 4, if the verdict is alike;
+    pub check-robust : {n : ℕ} → x ≡ Alike n → Robust 256 (writeOut a)
+    check-robust e = none-robust (writeOut a) .0 (check-alike e .0)
+
+    -- NOT ROBUST, if it is unlike.
+    pub check-not-robust : {n k : ℕ} → x ≡ Unlike n k → Robust 256 (writeOut a) → ⊥
+    check-not-robust {k = k} e f = let c = check-unlike e .0 in none-robust (writeOut a) .1 f (take k v′) (c .bytes) (c .cut)
+
+    -- WITHHELD: exactly if the distinct standings of the lines that no line cut differently comes before outnumber the slots, or the first line cut differently is
+    -- longer than the buffer;
+    pub check-withheld : ((x ≡ Refused 10 0) ⊎ (x ≡ Refused 11 0)) ↔ (Outnumber (writeOut a) (slots (length t)) ⊎ Longer (writeOut a) (length v))
+    check-withheld = (
+      λ c. withheld-exactly a reads .0 (either (λ e. inl (refusal .0 e)) (λ e. inr (refusal .0 e)) c),
+      λ o. either (λ c. inl (refusal .1 c)) (λ c. inr (refusal .1 c)) (withheld-exactly a reads .1 o),
+    )
+
+    -- WITH 10 exactly if they outnumber the slots,
     pub check-ten : (x ≡ Refused 10 0) ↔ Outnumber (writeOut a) (slots (length t))
-    check-ten = (
-      λ e. ten-exactly a reads .0 (t′, v′, subst (λ y. Checks p t v y t′ v′) e h),
-      λ o. let (t″, v″, c) = ten-exactly a reads .1 o in one-result c,
-    )
+    check-ten = Iff·trans refusal (ten-exactly a reads)
 
+    -- WITH 11 exactly if they do not, and that line is longer than the buffer.
     pub check-eleven : (x ≡ Refused 11 0) ↔ ((Outnumber (writeOut a) (slots (length t)) → ⊥) × Longer (writeOut a) (length v))
-    check-eleven = (
-      λ e. eleven-exactly a reads .0 (t′, v′, subst (λ y. Checks p t v y t′ v′) e h),
-      λ o. let (t″, v″, c) = eleven-exactly a reads .1 o in one-result c,
-    )
+    check-eleven = Iff·trans refusal (eleven-exactly a reads)
 
     -- OTHERWISE it is a verdict, and carries their number.
     pub check-decides : (Outnumber (writeOut a) (slots (length t)) → ⊥) → (Longer (writeOut a) (length v) → ⊥) → ((n : ℕ) × (x ≡ Alike n)) ⊎ ((n k : ℕ) × (x ≡ Unlike n k))
@@ -85,10 +110,10 @@ module _ (p t v : List ℕ) (x : Verdict) (t′ v′ : List ℕ) (h : Checks p t
         withheld i (not-read {n = m} {q = k} j e c d) = not-both p a m k reads j
         withheld i (same-cuts j k l e c d) = absurd (let z : _≡_ {A = ℕ} 0 1 = cc in omega arith)
         withheld i (first-witness j k l m e c d) = absurd (let z : _≡_ {A = ℕ} 0 1 = cc in omega arith)
-        withheld {n} {q} i (no-slot j k l e c d) = let y : n ≡ 10 = cc in let z : q ≡ 0 = cc in f (check-ten .0 (i ∙ ap₂ Refused y z))
-        withheld {n} {q} i (no-room j k l m e c d) = let y : n ≡ 11 = cc in let z : q ≡ 0 = cc in g (check-eleven .0 (i ∙ ap₂ Refused y z) .1)
+        withheld {n} {q} i (no-slot j k l e c d) = let y : n ≡ 10 = cc in let z : q ≡ 0 = cc in either f g (check-withheld .0 (inl (i ∙ ap₂ Refused y z)))
+        withheld {n} {q} i (no-room j k l m e c d) = let y : n ≡ 11 = cc in let z : q ≡ 0 = cc in either f g (check-withheld .0 (inr (i ∙ ap₂ Refused y z)))
 
         go : (y : Verdict) → x ≡ y → ((n : ℕ) × (x ≡ Alike n)) ⊎ ((n k : ℕ) × (x ≡ Unlike n k))
         go (Alike n) e = inl (n, e)
         go (Unlike n k) e = inr (n, k, e)
-        go (Refused n q) e = absurd (withheld e (checked-found (subst (λ y. Checks p t v y t′ v′) e h)))
+        go (Refused n q) e = absurd (withheld e (checked-found (right e)))

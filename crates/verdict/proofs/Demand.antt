@@ -1,28 +1,38 @@
 -- What a right answer of the checker says of the pattern.
 -- Assumes nothing.
-use mathlib.Core.Path.{_≡_}
+use mathlib.Core.Path.{_≡_, sym, subst}
 use mathlib.Core.Logic.{_⊎_, inl, inr, _↔_}
 use Prim.Native.Nat.{ℕ, _≤_}
 use mathlib.Core.List.{List}
+use native.Mathlib.Decide.{ℕ-discrete}
 use lib.ListN.{length, take, drop}
+use Rattle.theory.specs.Pattern.{Re}
+use Rattle.theory.specs.Spans.{Span-discrete, greedy, posix}
 use Rattle.theory.specs.Lines.{Below}
+use Rattle.theory.specs.Preference.{Robust}
+use Rattle.theory.proofs.Denotation.{robust}
 use Rattle.theory.proofs.Tests.{either}
 use Rattle.grammar.specs.Grammar.{Alternation}
 use Rattle.grammar.specs.Limits.{Reads}
 use Rattle.grammar.specs.Refusals.{Fault}
 use Rattle.grammar.specs.WriteOut.{writeOut}
 use Rattle.verdict.specs.Table.{slots}
-use Rattle.verdict.specs.Checked.{Result, alike, unlike, refused, whole, Checked}
+use Rattle.verdict.specs.Checked.{Result, alike, unlike, refused, Whole, whole, Checked}
 use Rattle.verdict.specs.Demand.{NoneCut, FirstCut, Number, Outnumber, Longer}
-use Rattle.verdict.proofs.One.{found, found-exactly}
-use Rattle.verdict.proofs.Checked.{checked-found, checked-exactly}
+use Rattle.verdict.proofs.Checked.{checked-found, checked-exactly, checked-one}
 use Rattle.verdict.proofs.Promise.{Refused, alike-promise, unlike-promise, ten, eleven, withheld, reader-refusal, kept}
 use Rattle.verdict.proofs.StayBytes.{stay-bytes}
 
--- The right answer is the computed one.
-pub checked-is : (p t v : List ℕ) (x : Result) (t′ v′ : List ℕ) → Checked p t v (whole x t′ v′) ↔ (found p t v ≡ whole x t′ v′)
-checked-is p t v x t′ v′ =
-    (λ c. found-exactly p t v x t′ v′ .0 (checked-found c), λ e. checked-exactly p t v x t′ v′ .1 (found-exactly p t v x t′ v′ .1 e))
+-- Of a right answer: an answer is right exactly if it is that one.
+pub checked-is : {p t v : List ℕ} {z : Whole} → Checked p t v z → (y : Whole) → Checked p t v y ↔ (y ≡ z)
+checked-is {p} {t} {v} c y = (λ d. checked-one d c, λ e. subst (Checked p t v) (sym e) c)
+
+-- NO LINE IS CUT DIFFERENTLY exactly if the pattern is robust, by source 000's Definition 4.
+pub none-robust : (r : Re) → NoneCut r ↔ Robust 256 r
+none-robust r = (
+  λ f. robust 256 r .1 λ w b. elim (Span-discrete ℕ-discrete (greedy r w) (posix r w)) [ yes e ↦ e | no e ↦ absurd (f w b e) ],
+  λ h w b c. c (robust 256 r .0 h w b),
+)
 
 -- It is refused with that number at place 0.
 abbrev pub RefusedBy : List ℕ → List ℕ → List ℕ → ℕ → Type 0
