@@ -2,10 +2,11 @@
 -- Assumes nothing.
 use mathlib.Core.Path.{_≡_, refl}
 use Prim.Native.Nat.{ℕ, zero, suc}
-use mathlib.Core.Bool.{true, false}
-use mathlib.Core.List.{List, [], _∷_, map}
+use mathlib.Core.Bool.{Bool, true, false}
+use mathlib.Core.List.{List, [], _∷_, _++_, map}
 use lib.ListN.{replicate}
-use Rattle.theory.specs.Pattern.{Re, empty, seq, star, opt, count, number}
+use Rattle.theory.specs.Pattern.{Re, empty, seq, star, opt, count, number, has}
+use Rattle.theory.specs.Standing.{from}
 use Rattle.grammar.specs.Grammar.{plain, digit, Item, range, named, one, more, exactly, atLeast, between, kind, inside}
 use Rattle.grammar.specs.Limits.{heaviest, weight}
 use Rattle.grammar.specs.Sets.{setTable, inItem, inClass}
@@ -83,6 +84,19 @@ range-ends = refl
 
 pub negated-class : map (inClass true a-to-c) (96 ∷ 97 ∷ 99 ∷ 100 ∷ []) ≡ true ∷ false ∷ false ∷ true ∷ []
 negated-class = refl
+
+-- The set of the pattern's first leaf at each byte from 0 to 255. `.` holds all but 10, and [^a] all but a: 0 and 10 are bytes like others there.
+abbrev holds : Answer → List Bool
+holds (accepted t) = map (has (writeOut t) 0) (from 0 256)
+holds (refused n q) = []
+
+pub dot-holds : holds (read (46 ∷ [])) ≡ replicate 10 true ++ (false ∷ replicate 245 true)
+unfolding read loop kind inside readItems heaviest weight writeOut shape chain number count has
+dot-holds = refl
+
+pub negated-holds : holds (read (91 ∷ 94 ∷ 97 ∷ 93 ∷ [])) ≡ replicate 97 true ++ (false ∷ replicate 158 true)
+unfolding read loop kind inside readItems heaviest weight writeOut shape chain number count has
+negated-holds = refl
 
 -- A named set is its bit of the table: [:digit:] at `/`, 0, 9 and `:`.
 pub named-set : map (inItem (named digit)) (47 ∷ 48 ∷ 57 ∷ 58 ∷ []) ≡ false ∷ true ∷ true ∷ false ∷ []
