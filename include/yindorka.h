@@ -3,7 +3,10 @@
  * Every function is proved to meet the promise beside it, for every content of every buffer (crates/yindorka/src/lib.rt has the contracts).
  * No function allocates, keeps a state between calls or writes anywhere but to the buffers named; so each may be called from any number of threads,
  * as long as no two calls share a buffer that one of them writes. No function fails: what is no pattern is refused with a number and a place.
- * A pointer to a buffer of length 0 must not be null. The stack is not proved; the programs over these functions are tested with 512 KB of it.
+ * A pointer to a buffer of length 0 must not be null. Linux on x86-64.
+ *
+ * The stack is not proved. It was measured over some 25,000 patterns, the deepest and the heaviest among them, and tests/embedding holds it:
+ * yindorka_check takes at most 220 KB, yindorka_prepare 210 KB, yindorka_cut 2 KB. The size of a line or a table changes nothing in this.
  */
 #ifndef YINDORKA_H
 #define YINDORKA_H
@@ -11,9 +14,16 @@
 #include <stddef.h>
 #include <stdint.h>
 
+/* The version of this header: 10,000 times the first number, 100 times the second, and the third. */
+#define YINDORKA_VERSION "1.0.0"
+#define YINDORKA_VERSION_NUMBER 10000
+
 #ifdef __cplusplus
 extern "C" {
 #endif
+
+/* The version of the library that is linked; it fits this header if it is YINDORKA_VERSION_NUMBER. */
+uint32_t yindorka_version(void);
 
 /* The tables of an accepted pattern: filled by yindorka_prepare, read by yindorka_cut. They hold no pointer and may be copied. */
 typedef struct {

@@ -49,5 +49,9 @@ int main(int n, char **words)
     for (int i = 2; i < n; i++) {
         show_cut(words[i]);
     }
+    if (fflush(stdout) || ferror(stdout)) {
+        perror("example: standard output cannot be written");
+        return 2;
+    }
     return 0;
 }

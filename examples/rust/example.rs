@@ -1,6 +1,8 @@
 // Reads a pattern from the command line, says whether the two readings can ever cut a line differently, and cuts the other words both ways.
-// Usage: example PATTERN LINE..   Built and run by examples/rust/run.
+// Usage: example PATTERN LINE..   Built and run by examples/rust/run. Pattern and lines are bytes, whether they are UTF-8 or not.
 use std::env;
+use std::io::{self, Write};
+use std::os::unix::ffi::OsStringExt;
 use std::process::exit;
 
 // The library's structs and functions, as include/yindorka.h has them.
@@ -137,27 +139,51 @@ fn check(text: &[u8]) -> Verdict {
     }
 }
 
+fn show_verdict(out: &mut impl Write, verdict: Verdict) -> io::Result<()> {
+    match verdict {
+        Verdict::Alike { count } => writeln!(out, "alike, {count} records"),
+        Verdict::Unlike { count, witness } => {
+            let hex: String = witness.iter().map(|b| format!("{b:02x}")).collect();
+            writeln!(out, "unlike, {count} records, first line cut differently: {hex}")
+        }
+        Verdict::Refused { number, place } => writeln!(out, "refused with {number} at {place}"),
+    }
+}
+
+// A cut may go through a character, so what is taken is written as bytes.
+fn show_cut(out: &mut impl Write, pattern: &Pattern, line: &[u8]) -> io::Result<()> {
+    let text = match pattern.cut(line) {
+        None => [line, b": none\n"].concat(),
+        Some((start, short, long)) => [line, b": the station takes '", &line[start..short], b"', the hall '", &line[start..long], b"'\n"].concat(),
+    };
+    out.write_all(&text)
+}
+
+// Whether the pattern is one.
+fn show_all(words: &[Vec<u8>]) -> io::Result<bool> {
+    let mut out = io::stdout().lock();
+    show_verdict(&mut out, check(&words[0]))?;
+    let Ok(pattern) = Pattern::read(&words[0]) else {
+        return Ok(false);
+    };
+    for line in &words[1..] {
+        show_cut(&mut out, &pattern, line)?;
+    }
+    Ok(true)
+}
+
 fn main() {
-    let words: Vec<String> = env::args().collect();
-    if words.len() < 2 {
+    let words: Vec<Vec<u8>> = env::args_os().skip(1).map(|word| word.into_vec()).collect();
+    if words.is_empty() {
         eprintln!("usage: example PATTERN LINE..");
         exit(2);
     }
-    match check(words[1].as_bytes()) {
-        Verdict::Alike { count } => println!("alike, {count} records"),
-        Verdict::Unlike { count, witness } => {
-            let hex: String = witness.iter().map(|b| format!("{b:02x}")).collect();
-            println!("unlike, {count} records, first line cut differently: {hex}");
-        }
-        Verdict::Refused { number, place } => println!("refused with {number} at {place}"),
-    }
-    let Ok(pattern) = Pattern::read(words[1].as_bytes()) else {
-        exit(1);
-    };
-    for line in &words[2..] {
-        match pattern.cut(line.as_bytes()) {
-            None => println!("{line}: none"),
-            Some((start, short, long)) => println!("{line}: the station takes '{}', the hall '{}'", &line[start..short], &line[start..long]),
+    match show_all(&words) {
+        Ok(true) => (),
+        Ok(false) => exit(1),
+        Err(e) => {
+            eprintln!("example: standard output cannot be written: {e}");
+            exit(2);
         }
     }
 }
