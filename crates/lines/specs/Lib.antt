@@ -1,3 +1,5 @@
--- Lines of the input, and room in the output's buffer.
+-- Lines of the input, the exchange of output for input, and the answers to lines in their order.
 pub mod Lines
+pub mod Exchange
+pub mod Answers
 pub mod Steps

@@ -1,7 +1,7 @@
 -- What is appended to a buffer: one text after another, nothing, a byte, and a text past the end. Bytes in hex. A number has one text.
 -- Assumes nothing.
 use mathlib.Core.Path.{_≡_, refl, sym, ap, _∙_}
-use Prim.Native.Nat.{ℕ, _+_, _-_, _≤_, _<_, _/_, _%_, _^_, min}
+use Prim.Native.Nat.{ℕ, _+_, _*_, _-_, _≤_, _<_, _/_, _%_, _^_, min}
 use mathlib.Core.Bool.{Bool, true, false, not}
 use mathlib.Core.List.{List, [], _∷_, _++_, append-assoc, append-nil}
 use native.Mathlib.Omega.{arith}
@@ -11,7 +11,7 @@ use lib.Dec.{T, leb, leb→le, nleb→lt}
 use lib.ListN.{length, take, getD, set, length-append, length-take, length-set}
 use lib.Seq.{take-all, take-append-le, take-suc, take-suc-set, take-take, length-take-le}
 use Rattle.io.specs.Digits.{glyph, digits, Fewest}
-use Rattle.printing.specs.Text.{Field, hex}
+use Rattle.printing.specs.Text.{Appended, Field, hex, Printed}
 use Rattle.printing.specs.Puts.{Put}
 
 -- A part of x that is cut off does not count past the first m bytes.
@@ -29,8 +29,9 @@ take-cut k m x y h = go (leb (length x) k) (leb→le (length x) k) (nleb→lt (l
 -- Two appendings, one after the other, are the appending of the joined text.
 pub appended-join : {a b c : List ℕ} {n m k : ℕ} {v w : List ℕ} → Put a n v b m → Put b m w c k → Put a n (v ++ w) c k
 appended-join {a} {b} {c} {n} {m} {k} {v} {w} f g =
-    let s : m ≡ min (length a) (n + length v) = f .appended .size in
-    let t : k ≡ min (length b) (m + length w) = g .appended .size in
+    let s : m ≡ min 65536 (n + length v) = f .appended .size in
+    let t : k ≡ min 65536 (m + length w) = g .appended .size in
+    let z : length a ≡ 65536 = f .appended .buffer in
     let l : length (v ++ w) ≡ length v + length w = length-append v w in
     let p : length (take n a) ≡ min n (length a) = length-take n a in
     let q : length (take n a ++ v) ≡ length (take n a) + length v = length-append (take n a) v in
@@ -38,7 +39,8 @@ appended-join {a} {b} {c} {n} {m} {k} {v} {w} f g =
       kept = g .kept ∙ f .kept;
       appended =
           record {
-            size = omega (arith, f .kept);
+            buffer = z;
+            size = omega arith;
             text =
                 g .appended .text
                 ∙ ap (λ x. take k (x ++ w)) (f .appended .text)
@@ -47,25 +49,27 @@ appended-join {a} {b} {c} {n} {m} {k} {v} {w} f g =
           };
     }
 
-pub put-none : (a : List ℕ) (n m : ℕ) → m ≡ min n (length a) → Put a n [] a m
-put-none a n m e =
+pub put-none : (a : List ℕ) (n m : ℕ) → length a ≡ 65536 → m ≡ min n (length a) → Put a n [] a m
+put-none a n m z e =
     record {
       kept = refl;
       appended =
           record {
+            buffer = z;
             size = omega arith;
             text = rw append-nil (sym (take-take m n a (omega arith)));
           };
     }
 
-pub put-one : (a : List ℕ) (n b : ℕ) → n < length a → Put a n (b ∷ []) (set a n b) (n + 1)
-put-one a n b h =
+pub put-one : (a : List ℕ) (n b : ℕ) → length a ≡ 65536 → n < length a → Put a n (b ∷ []) (set a n b) (n + 1)
+put-one a n b z h =
     let l : length (take n a ++ (b ∷ [])) ≡ length (take n a) + 1 = length-append (take n a) (b ∷ []) in
     let p : length (take n a) ≡ min n (length a) = length-take n a in
     record {
       kept = length-set a n b;
       appended =
           record {
+            buffer = z;
             size = omega arith;
             text =
                 ap (λ i. take i (set a n b)) (add-one n)
@@ -75,12 +79,13 @@ put-one a n b h =
     }
 
 -- A full buffer takes nothing.
-pub put-full : (a : List ℕ) (n m : ℕ) (w : List ℕ) → length a ≤ n → m ≡ length a → Put a n w a m
-put-full a n m w h e =
+pub put-full : (a : List ℕ) (n m : ℕ) (w : List ℕ) → length a ≡ 65536 → length a ≤ n → m ≡ length a → Put a n w a m
+put-full a n m w z h e =
     record {
       kept = refl;
       appended =
           record {
+            buffer = z;
             size = omega arith;
             text = ap (λ l. take m l) (sym (take-all n a h)) ∙ sym (take-append-le m (take n a) w (omega (arith, length-take n a)));
           };
@@ -99,6 +104,25 @@ take-min k l = go (leb (length l) k) (leb→le (length l) k) (nleb→lt (length 
 hex-join : (l m : List ℕ) → hex (l ++ m) ≡ hex l ++ hex m
 hex-join [] m = refl
 hex-join (b ∷ l) m = ap (λ x. digits 16 2 b ++ x) (hex-join l m) ∙ sym (append-assoc (digits 16 2 b) (hex l) (hex m))
+
+-- Two digits a byte.
+pub hex-size : (l : List ℕ) → length (hex l) ≡ 2 * length l
+hex-size [] = refl
+hex-size (b ∷ l) = omega (arith, hex-size l, length-append (digits 16 2 b) (hex l))
+
+-- No line of spans is longer: two words, four numbers and a newline.
+pub spans-size : (word from short second long : List ℕ) → length word ≡ 6 → length second ≡ 6 → length from ≤ 21 → length short ≤ 21 → length long ≤ 21
+    → length (word ++ (from ++ (short ++ (second ++ (from ++ (long ++ (10 ∷ []))))))) ≤ 97
+spans-size word from short second long e g f s l =
+    omega (
+      arith,
+      length-append word (from ++ (short ++ (second ++ (from ++ (long ++ (10 ∷ [])))))),
+      length-append from (short ++ (second ++ (from ++ (long ++ (10 ∷ []))))),
+      length-append short (second ++ (from ++ (long ++ (10 ∷ [])))),
+      length-append second (from ++ (long ++ (10 ∷ []))),
+      length-append from (long ++ (10 ∷ [])),
+      length-append long (10 ∷ []),
+    )
 
 -- One byte more of a slice, as it is and in hex.
 pub take-more : (l : List ℕ) (i : ℕ) → i < length l → take i l ++ (getD l i 0 ∷ []) ≡ take (i + 1) l
@@ -125,6 +149,21 @@ fewest-le x j k f g = go (leb j k) (leb→le j k) (nleb→lt j k)
         let u : 10 ^ (j - 1) ≤ x = f .2 (omega (arith, g .0)) in
         absurd (omega (arith, g .1))
 
+fewest-most : (x j k : ℕ) → Fewest 10 1 x j → 0 < k → x < 10 ^ k → j ≤ k
+fewest-most x j k f h l = go (leb j k) (leb→le j k) (nleb→lt j k)
+  where
+    go : (b : Bool) → (T b → j ≤ k) → (T (not b) → k < j) → j ≤ k
+    go true p q = p tt
+    go false p q =
+        let s = q tt in
+        let t : 10 ^ k ≤ 10 ^ (j - 1) = pow-le-pow-right (omega arith) (omega arith) in
+        let u : 10 ^ (j - 1) ≤ x = f .2 (omega arith) in
+        absurd (omega arith)
+
+-- A number of 64 bits has at most 20 digits, and its field 21 bytes.
+pub field-size : {x k : ℕ} (l : List ℕ) → Fewest 10 1 x k → x < 18446744073709551616 → length (32 ∷ take k l) ≤ 21
+field-size {x} {k} l f h = omega (arith, length-take k l, fewest-most x k 20 f (omega arith) (omega arith))
+
 -- A number has one text.
 pub field-one : {x : ℕ} {v w : List ℕ} → Field x v → Field x w → v ≡ w
 field-one {x} f g =
@@ -134,3 +173,13 @@ field-one {x} f g =
     let q : e .places ≤ d .places = fewest-le x (e .places) (d .places) (e .fewest) (d .fewest) in
     let k : d .places ≡ e .places = omega arith in
     f .text ∙ ap (λ l. 32 ∷ l) (d .text ∙ ap (λ i. digits 10 i x) k ∙ sym (e .text)) ∙ sym (g .text)
+
+-- Where there is room, nothing is cut off.
+pub fits : {a b : List ℕ} {n m : ℕ} {w : List ℕ} → Appended a n w b m → n + length w ≤ 65536 → (m ≡ n + length w) × (take m b ≡ take n a ++ w)
+fits {a} {b} {n} {m} {w} f h =
+    let p : length (take n a) ≡ min n (length a) = length-take n a in
+    (omega (arith, f .size), f .text ∙ take-all m (take n a ++ w) (omega (arith, f .size, f .buffer, length-append (take n a) w)))
+
+-- A line of at most k bytes has at most m.
+pub printed-most : {k m n i : ℕ} {L : List ℕ → Type 0} {a b : List ℕ} → k ≤ m → Printed k L a n b i → Printed m L a n b i
+printed-most h (w, l, s, t) = (w, l, omega arith, t)

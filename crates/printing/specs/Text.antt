@@ -1,14 +1,15 @@
 -- The lines that the programs print (paper 01, "The programs"), as bytes in ASCII, and what it is to append them to a buffer.
 -- Assumes nothing.
 use mathlib.Core.Path.{_≡_}
-use Prim.Native.Nat.{ℕ, _+_, min}
+use Prim.Native.Nat.{ℕ, _+_, _*_, _≤_, min}
 use mathlib.Core.List.{List, [], _∷_, _++_}
 use lib.ListN.{length, take}
 use Rattle.io.specs.Digits.{digits, Fewest}
 
--- The buffer, which held n bytes, now holds m: w is added to them, as far as it fits.
+-- The buffer of 65,536 bytes, which held n of them, now holds m: w is added to them, as far as it fits.
 pub record Appended (old : List ℕ) (n : ℕ) (w : List ℕ) (new : List ℕ) (m : ℕ) : Type 0 where
-  pub size : m ≡ min (length old) (n + length w)
+  pub buffer : length old ≡ 65536
+  pub size : m ≡ min 65536 (n + length w)
   pub text : take m new ≡ take m (take n old ++ w)
 
 -- A number in decimal, in the fewest digits.
@@ -48,6 +49,16 @@ pub record RefusedLine (number place : ℕ) (w : List ℕ) : Type 0 where
   pub at : Field place second
   pub text : w ≡ (114 ∷ 101 ∷ 102 ∷ 117 ∷ 115 ∷ 101 ∷ 100 ∷ []) ++ (first ++ (second ++ (10 ∷ [])))
 
+-- What the reader hands over for an accepted pattern: how many parts and leaves it has written out, and how many bytes the sets of its leaves hold together.
+pub record AcceptedLine (parts leaves members : ℕ) (w : List ℕ) : Type 0 where
+  pub first : List ℕ
+  pub second : List ℕ
+  pub third : List ℕ
+  pub is : Field parts first
+  pub with : Field leaves second
+  pub holding : Field members third
+  pub text : w ≡ (97 ∷ 99 ∷ 99 ∷ 101 ∷ 112 ∷ 116 ∷ 101 ∷ 100 ∷ []) ++ (first ++ (second ++ (third ++ (10 ∷ []))))
+
 -- "none".
 abbrev pub noneLine : List ℕ
 noneLine = 110 ∷ 111 ∷ 110 ∷ 101 ∷ 10 ∷ []
@@ -70,6 +81,10 @@ pub record ExplainedLine (count : ℕ) (witness : List ℕ) (start greedy posix 
   pub cut : SpansLine start greedy posix spans
   pub text : w ≡ verdict ++ (32 ∷ spans)
 
--- A line of the kind L is appended.
-abbrev pub Printed : (List ℕ → Type 0) → List ℕ → ℕ → List ℕ → ℕ → Type 0
-Printed L old n new m = (w : List ℕ) × L w × Appended old n w new m
+-- So many bytes, and two for each byte of a witness.
+abbrev pub room : ℕ → List ℕ → ℕ
+room k witness = k + 2 * length witness
+
+-- A line of the kind L, of at most k bytes, is appended.
+abbrev pub Printed : ℕ → (List ℕ → Type 0) → List ℕ → ℕ → List ℕ → ℕ → Type 0
+Printed k L old n new m = (w : List ℕ) × L w × (length w ≤ k) × Appended old n w new m

@@ -1,16 +1,16 @@
 // The lines that the programs print, appended to a lent buffer: paper 01, "The programs". What does not fit is cut off; a program writes its buffer out in time.
 ghost use mathlib.Core.Path.{_≡_};
 ghost use mathlib.Core.List.{[], _∷_, _++_};
-ghost use Prim.Native.Nat.{_<_, min};
-ghost use lib.ListN.{length, take};
+ghost use Prim.Native.Nat.{_<_};
+ghost use lib.ListN.{take};
 ghost use Rattle.io.specs.Digits.{digits};
 ghost use Rattle.io.specs.Digits.{glyph as Digits·glyph};
-ghost use Rattle.printing.specs.Text.{Appended, Printed, hex, AlikeLine, UnlikeLine, RefusedLine, SpansLine, ExplainedLine, noneLine};
+ghost use Rattle.printing.specs.Text.{Appended, Printed, room, hex, AlikeLine, UnlikeLine, RefusedLine, AcceptedLine, SpansLine, ExplainedLine, noneLine};
 ghost use Rattle.printing.specs.Puts.{Put, PutField, PutLine, Unended};
 
 // How many bytes of the buffer are in use: all of them where n is above its size.
 fn used(out: &[u8; 65536], n: usize) -> usize
-    ensures { λ r. ⌜ r ≡ min n (length (now (out .entry))) ⌝ }
+    ensures { λ r. ⌜ Put (now (out .entry)) n [] (now (out .entry)) r ⌝ }
 {
     words::least(n, words::length_of(out))
 }
@@ -81,7 +81,7 @@ fn put_hex(out: &mut [u8; 65536], n: usize, s: &[u8], k: usize) -> usize
 
 // 'alike COUNT'
 pub fn alike(out: &mut [u8; 65536], n: usize, count: usize) -> usize
-    ensures printed { λ r. ⌜ Printed (AlikeLine count) (now (out .entry)) n (now (out .exit)) r ⌝ }
+    ensures printed { λ r. ⌜ Printed 27 (AlikeLine count) (now (out .entry)) n (now (out .exit)) r ⌝ }
 {
     let word = put(out, n, b"alike");
     let field = put_field(out, word, count);
@@ -90,7 +90,7 @@ pub fn alike(out: &mut [u8; 65536], n: usize, count: usize) -> usize
 
 // 'unlike COUNT WITNESS' without its newline
 fn put_unlike(out: &mut [u8; 65536], n: usize, count: usize, length: usize, witness: &[u8]) -> usize
-    ensures { λ r. ⌜ PutLine (Unended (UnlikeLine count (take length (now (witness .entry))))) (now (out .entry)) n (now (out .exit)) r ⌝ }
+    ensures { λ r. ⌜ PutLine (room 28 (take length (now (witness .entry)))) (Unended (UnlikeLine count (take length (now (witness .entry))))) (now (out .entry)) n (now (out .exit)) r ⌝ }
 {
     let word = put(out, n, b"unlike");
     let field = put_field(out, word, count);
@@ -100,7 +100,7 @@ fn put_unlike(out: &mut [u8; 65536], n: usize, count: usize, length: usize, witn
 
 // 'unlike COUNT WITNESS', the first `length` bytes of the buffer in hex
 pub fn unlike(out: &mut [u8; 65536], n: usize, count: usize, length: usize, witness: &[u8]) -> usize
-    ensures printed { λ r. ⌜ Printed (UnlikeLine count (take length (now (witness .entry)))) (now (out .entry)) n (now (out .exit)) r ⌝ }
+    ensures printed { λ r. ⌜ Printed (room 29 (take length (now (witness .entry)))) (UnlikeLine count (take length (now (witness .entry)))) (now (out .entry)) n (now (out .exit)) r ⌝ }
 {
     let verdict = put_unlike(out, n, count, length, witness);
     put_byte(out, verdict, b'\n')
@@ -108,12 +108,29 @@ pub fn unlike(out: &mut [u8; 65536], n: usize, count: usize, length: usize, witn
 
 // 'refused NUMBER PLACE'
 pub fn refused(out: &mut [u8; 65536], n: usize, number: u8, place: usize) -> usize
-    ensures printed { λ r. ⌜ Printed (RefusedLine number place) (now (out .entry)) n (now (out .exit)) r ⌝ }
+    ensures printed { λ r. ⌜ Printed 50 (RefusedLine number place) (now (out .entry)) n (now (out .exit)) r ⌝ }
 {
     let word = put(out, n, b"refused");
     let first = put_field(out, word, number as usize);
     let second = put_field(out, first, place);
     put_byte(out, second, b'\n')
+}
+
+// 'accepted PARTS LEAVES MEMBERS'
+pub fn accepted(
+    out: &mut [u8; 65536],
+    n: usize,
+    parts: usize,
+    leaves: usize,
+    members: usize,
+) -> usize
+    ensures printed { λ r. ⌜ Printed 72 (AcceptedLine parts leaves members) (now (out .entry)) n (now (out .exit)) r ⌝ }
+{
+    let word = put(out, n, b"accepted");
+    let first = put_field(out, word, parts);
+    let second = put_field(out, first, leaves);
+    let third = put_field(out, second, members);
+    put_byte(out, third, b'\n')
 }
 
 // 'none'
@@ -124,7 +141,7 @@ pub fn none(out: &mut [u8; 65536], n: usize) -> usize
 }
 
 fn put_spans(out: &mut [u8; 65536], n: usize, start: usize, greedy: usize, posix: usize) -> usize
-    ensures { λ r. ⌜ PutLine (SpansLine start greedy posix) (now (out .entry)) n (now (out .exit)) r ⌝ }
+    ensures { λ r. ⌜ PutLine 97 (SpansLine start greedy posix) (now (out .entry)) n (now (out .exit)) r ⌝ }
 {
     let first = put(out, n, b"greedy");
     let from = put_field(out, first, start);
@@ -137,7 +154,7 @@ fn put_spans(out: &mut [u8; 65536], n: usize, start: usize, greedy: usize, posix
 
 // 'greedy START END posix START END'
 pub fn spans(out: &mut [u8; 65536], n: usize, start: usize, greedy: usize, posix: usize) -> usize
-    ensures printed { λ r. ⌜ Printed (SpansLine start greedy posix) (now (out .entry)) n (now (out .exit)) r ⌝ }
+    ensures printed { λ r. ⌜ Printed 97 (SpansLine start greedy posix) (now (out .entry)) n (now (out .exit)) r ⌝ }
 {
     put_spans(out, n, start, greedy, posix)
 }
@@ -153,7 +170,7 @@ pub fn explained(
     greedy: usize,
     posix: usize,
 ) -> usize
-    ensures printed { λ r. ⌜ Printed (ExplainedLine count (take length (now (witness .entry))) start greedy posix) (now (out .entry)) n (now (out .exit)) r ⌝ }
+    ensures printed { λ r. ⌜ Printed (room 126 (take length (now (witness .entry)))) (ExplainedLine count (take length (now (witness .entry))) start greedy posix) (now (out .entry)) n (now (out .exit)) r ⌝ }
 {
     let verdict = put_unlike(out, n, count, length, witness);
     let gap = put_byte(out, verdict, b' ');

@@ -1,7 +1,10 @@
 -- `printing::alike` meets its contract: each step appends its part of the line.
 -- Assumes nothing.
 use mathlib.Core.Path.{refl}
+use mathlib.Core.List.{[], _∷_}
 use Rattle.printing.proofs.Laws.{appended-join}
+use lib.ListN.{length-append}
+use native.Mathlib.Omega.{arith}
 use borrow.Author.Needs.{needs}
 use Rattle.printing.proofs.alike.Statement.{statement}
 use Rattle.printing.proofs.alike.Tie as tie
@@ -11,6 +14,7 @@ returns c =
     let f = c .before .before .put-field .ensures in (
       _,
       record { field = f .text; is = f .field; text = refl },
+      omega (arith, f .most, length-append (f .text) (10 ∷ [])),
       appended-join (c .before .before .before .before .put .ensures) (appended-join (f .put) (c .put-byte .ensures)) .appended,
     )
 

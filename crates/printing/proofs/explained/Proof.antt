@@ -1,6 +1,9 @@
 -- `printing::explained` meets its contract: the verdict, a space and the spans, one after the other.
 -- Assumes nothing.
 use mathlib.Core.Path.{refl}
+use mathlib.Core.List.{_∷_}
+use lib.ListN.{length-append}
+use native.Mathlib.Omega.{arith}
 use borrow.Author.Needs.{needs}
 use Rattle.printing.proofs.Laws.{appended-join}
 use Rattle.printing.proofs.explained.Statement.{statement}
@@ -12,7 +15,8 @@ returns c =
     let s = c .put-spans .ensures in (
       _,
       record { verdict = v .0; spans = s .0; is = v .1; cut = s .1; text = refl },
-      appended-join (v .2) (appended-join (c .before .before .put-byte .ensures) (s .2)) .appended,
+      omega (arith, v .2, s .2, length-append (v .0) (32 ∷ s .0)),
+      appended-join (v .3) (appended-join (c .before .before .put-byte .ensures) (s .3)) .appended,
     )
 
 pub explained-spec : {M : Type 1} → statement M

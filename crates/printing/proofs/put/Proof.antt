@@ -6,7 +6,7 @@ use Prim.Native.Nat.{_≤_, _-_}
 use lib.ListN.{length, take}
 use lib.Seq.{take-all}
 use Rattle.printing.specs.Puts.{Put}
-use Rattle.printing.proofs.Laws.{put-none, appended-join, same-put, take-more}
+use Rattle.printing.proofs.Laws.{appended-join, same-put, take-more}
 use Rattle.printing.proofs.put.Statement.{statement}
 use Rattle.printing.proofs.put.Tie as tie
 
@@ -17,7 +17,7 @@ abbrev μ-loop : tie.MeasureT-loop
 μ-loop out₀ n s m₀ i₀ out m i = length s - i
 
 loop-holds : tie.Need-loop-holds Inv-loop μ-loop
-loop-holds c = (omega arith, put-none _ _ _ (c .used .ensures))
+loop-holds c = (omega arith, c .used .ensures)
 
 loop-again : tie.Need-loop-again Inv-loop μ-loop
 loop-again c =

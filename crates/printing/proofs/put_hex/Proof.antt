@@ -6,7 +6,7 @@ use Prim.Native.Nat.{_≤_, _-_, min}
 use lib.ListN.{length, take}
 use Rattle.printing.specs.Text.{hex}
 use Rattle.printing.specs.Puts.{Put}
-use Rattle.printing.proofs.Laws.{put-none, appended-join, same-put, hex-more, take-min}
+use Rattle.printing.proofs.Laws.{appended-join, same-put, hex-more, take-min}
 use mathlib.Core.Path.{_≡_, ap, _∙_}
 use Rattle.printing.proofs.put_hex.Statement.{statement}
 use Rattle.printing.proofs.put_hex.Tie as tie
@@ -18,7 +18,7 @@ abbrev μ-loop : tie.MeasureT-loop
 μ-loop out₀ n s k end m₀ i₀ out m i = end - i
 
 loop-holds : tie.Need-loop-holds Inv-loop μ-loop
-loop-holds c = (omega arith, put-none _ _ _ (c .used .ensures))
+loop-holds c = (omega arith, c .used .ensures)
 
 loop-again : tie.Need-loop-again Inv-loop μ-loop
 loop-again c =

@@ -1,7 +1,8 @@
 -- `printing::put_spans` meets its contract: each step appends its part of the line, and the start has the same text both times.
 -- Assumes nothing.
 use mathlib.Core.Path.{refl}
-use Rattle.printing.proofs.Laws.{appended-join, same-put, field-one}
+use mathlib.Core.List.{[], _∷_}
+use Rattle.printing.proofs.Laws.{appended-join, same-put, field-one, spans-size}
 use borrow.Author.Needs.{needs}
 use Rattle.printing.proofs.put_spans.Statement.{statement}
 use Rattle.printing.proofs.put_spans.Tie as tie
@@ -24,6 +25,7 @@ returns c =
         longest = l .field;
         text = refl;
       },
+      spans-size (103 ∷ 114 ∷ 101 ∷ 101 ∷ 100 ∷ 121 ∷ []) (f .text) (s .text) (32 ∷ 112 ∷ 111 ∷ 115 ∷ 105 ∷ 120 ∷ []) (l .text) refl refl (f .most) (s .most) (l .most),
       appended-join (c9 .before .before .before .before .put .ensures)
           (appended-join (f .put)
           (appended-join (s .put)
