@@ -1,2 +1,3 @@
 -- Laws of the lines that answer a pattern.
 mod Cutting
+pub mod Kept

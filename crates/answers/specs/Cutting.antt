@@ -7,7 +7,7 @@ use Rattle.theory.specs.Spans.{greedy, posix}
 use Rattle.grammar.specs.Grammar.{Alternation}
 use Rattle.grammar.specs.Limits.{Reads}
 use Rattle.grammar.specs.WriteOut.{writeOut}
-use Rattle.printing.specs.Text.{Printed, UnlikeLine}
+use Rattle.printing.specs.Text.{room, Printed, UnlikeLine}
 use Rattle.checker.specs.declared.Verdict.{Verdict}
 use Rattle.checker.specs.Verdicts.{Checks}
 use Rattle.answers.specs.Line.{CutLine, SpansLineOf}
@@ -19,4 +19,4 @@ pub data Shown (p : List ℕ) (n : ℕ) (w text : List ℕ) : Type 0 where
 
 -- For the verdict on the pattern.
 abbrev pub Explained : List ℕ → Verdict → List ℕ → List ℕ → ℕ → List ℕ → ℕ → Type 0
-Explained p x v old n new m = (t u t′ : List ℕ) → Checks p t u x t′ v → Printed (SpansLineOf p x v) old n new m
+Explained p x v old n new m = (t u t′ : List ℕ) → Checks p t u x t′ v → Printed (room 126 v) (SpansLineOf p x v) old n new m

@@ -1,18 +1,20 @@
 -- What the reader answers.
 -- Assumes nothing.
-use mathlib.Core.Path.{_≡_, refl, sym, _∙_}
+use mathlib.Core.Path.{_≡_, refl, sym, ap, _∙_}
 use mathlib.Core.Logic.{_⊎_, inl, inr, _↔_}
-use Prim.Native.Nat.{ℕ, zero, suc, _≤_}
-use mathlib.Core.List.{List, [], _∷_}
+use Prim.Native.Nat.{ℕ, zero, suc, _≤_, _<_}
+use mathlib.Core.List.{List, [], _∷_, _++_, append-nil}
 use native.Mathlib.Omega.{arith}
-use lib.ListN.{replicate}
+use lib.ListN.{length, take, replicate}
+use lib.Seq.{take-append-le, take-length}
 use Rattle.grammar.specs.Grammar.{once, Alternation, last, nothing, group, alternation, WfAlternation}
 use Rattle.grammar.specs.Limits.{depth, Reads}
 use Rattle.grammar.specs.Before.{Before, after, text, opens, WfBefore}
 use Rattle.grammar.specs.Code.Reader.{Gathered, whole, within, gather, read}
-use Rattle.grammar.specs.Refusals.{Answer, accepted, refused, Fault, Right}
+use Rattle.grammar.specs.Refusals.{Answer, accepted, refused, Fault, tooLong, wrong, tooHeavy, Right}
 use Rattle.grammar.proofs.Sound.{GatherOk, gather-ok, opens-max, read-right}
 use Rattle.grammar.proofs.Unique.{right-unique}
+use Rattle.grammar.proofs.Place.{text-leads}
 
 -- A pattern is accepted with a tree exactly if it is the text of that tree, which is well formed and within the limits.
 pub accepts : (p : List ℕ) (t : Alternation) → (read p ≡ accepted t) ↔ Reads p t
@@ -70,3 +72,14 @@ completed o w = go (opens o) o w refl
     go : (n : ℕ) (o : Before) → WfBefore o → opens o ≡ n → (t : Alternation) × WfAlternation t × (depth t ≤ 16) × (alternation t [] ≡ text o (replicate n 41))
     go zero o w e = end o (gather o (last nothing)) e (gathered o w)
     go (suc n) o w e = close n o (gather o (last nothing)) (λ o w e. go n o w e) e (gathered o w)
+
+-- THE LOWEST PLACE: what stands before the place of a fault from 2 on is the beginning of a pattern of the grammar, no deeper than 16, so nothing before it is at fault.
+pub lowest : {p : List ℕ} {n q : ℕ} → Fault p n q → 1 < n → (c : List ℕ) × (t : Alternation) × WfAlternation t × (depth t ≤ 16) × (alternation t [] ≡ take q p ++ c)
+lowest (tooLong l e f) h = absurd (omega arith)
+lowest {p} {n} {q} (wrong l o s w e f g) h =
+    let (t, wf, deep, is) = completed o w in
+    let c : List ℕ = replicate (opens o) 41 in
+    let first : take q p ≡ text o [] =
+    ap (λ k. take k p) g ∙ ap (λ x. take (length (text o [])) x) (sym e ∙ text-leads o s) ∙ take-append-le (length (text o [])) (text o []) s (omega arith) ∙ take-length (text o []) in
+    (c, t, wf, deep, is ∙ text-leads o c ∙ ap (λ x. x ++ c) (sym first))
+lowest {p} {n} {q} (tooHeavy l t wf deep e f g k) h = ([], t, wf, deep, e ∙ sym (append-nil (take q p) ∙ ap (λ i. take i p) k ∙ take-length p))

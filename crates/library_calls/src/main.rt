@@ -3,10 +3,11 @@
 // witness buffer hold, in hex, a line each, and 'kept' if no byte beyond them has changed, else 'touched'. A field that is no number counts as 0.
 ghost use Prim.Native.Nat.{_≤_, _<_};
 ghost use lib.ListN.{length};
+ghost use Rattle.lines.specs.Exchange.{Finished};
 use checker::Verdict;
 use lines::KEPT;
-use lines::Output;
 use lines::SIZE;
+use lines::State;
 
 // How many bytes can be lent, and how many a pattern can have.
 const TABLE: usize = 8192;
@@ -19,9 +20,6 @@ const PATTERN: usize = 512;
 const TABLE_BYTE: u8 = 170;
 
 const WITNESS_BYTE: u8 = 187;
-
-// No call prints more than this: 2,200 bytes for the verdict, both arrays in hex with their newlines, and 'touched'.
-const LONGEST: usize = 21000;
 
 // The value of a hex digit, 0 for any other byte.
 fn value(b: u8) -> u8
@@ -157,33 +155,31 @@ fn call(
     report(out, m, table, witness, t, w)
 }
 
-// Serves calls until the input is over or a write fails, and says how many bytes wait.
-fn serve(chunk: &mut [u8; SIZE], line: &mut [u8; KEPT], out: &mut [u8; SIZE]) -> usize {
+// Answers the calls of the input, until it is over or a read or a write fails.
+fn run(chunk: &mut [u8; SIZE], line: &mut [u8; KEPT], out: &mut [u8; SIZE]) -> State
+    ensures { λ r. ⌜ Finished r ⌝ }
+{
     let mut table = [0u8; TABLE];
     let mut witness = [0u8; WITNESS];
-    let mut input = lines::fresh(0, 0);
-    let mut output = Output {
-        used: 0,
-        open: true,
-    };
+    let mut s = lines::start();
     let mut turns = u64::MAX;
-    while turns > 0 && output.open {
-        input = lines::next_line(chunk, line, input);
-        if !input.begun {
-            return output.used;
+    while turns > 0 && lines::goes_on(s) {
+        s = lines::next_line(chunk, line, s);
+        if s.whole {
+            let text = lines::first_of(line, s.n);
+            s.used = call(out, 0, text, &mut table, &mut witness);
         }
-        let text = lines::first_of(line, input.n);
-        let used = call(out, output.used, text, &mut table, &mut witness);
-        output = lines::make_room(out, used, LONGEST);
+        s = lines::exchange(chunk, out, s);
         turns -= 1;
     }
-    output.used
+    lines::finish(s)
 }
 
 fn main() {
     let mut chunk = [0u8; SIZE];
     let mut line = [0u8; KEPT];
     let mut out = [0u8; SIZE];
-    let used = serve(&mut chunk, &mut line, &mut out);
-    lines::write(&out, used);
+    let s = run(&mut chunk, &mut line, &mut out);
+    let source = s.source;
+    lines::tell(&mut out, source);
 }

@@ -1,29 +1,11 @@
 // Reads patterns from standard input, one a line, and prints what the reader hands over for each: 'refused NUMBER PLACE', or 'accepted PARTS LEAVES MEMBERS',
 // the parts and leaves of the written-out pattern and how many bytes the sets of its leaves hold together.
-ghost use Prim.Native.Nat.{ℕ, _+_, _*_, _≤_, _<_};
-use libc::STDIN_FILENO;
-use libc::STDOUT_FILENO;
+ghost use Prim.Native.Nat.{_≤_, _*_, _<_};
+ghost use Rattle.lines.specs.Exchange.{Finished};
+use lines::KEPT;
+use lines::SIZE;
+use lines::State;
 use reader::Answer;
-
-// A line as far as it has been read: of a longer one, its first 256 bytes, which are refused as it is.
-struct Line {
-    bytes: [u8; 256],
-    n: usize,
-    any: bool,
-}
-
-struct Step {
-    line: Line,
-    more: bool,
-}
-
-fn none() -> Line {
-    Line {
-        bytes: [0u8; 256],
-        n: 0,
-        any: false,
-    }
-}
 
 fn ones(x: u64) -> u64
     ensures { λ r. ⌜ r < 128 ⌝ }
@@ -39,109 +21,41 @@ fn members(masks: &[u64; 256]) -> u64 {
     sum
 }
 
-fn number(n: u64) {
-    io::write_all(STDOUT_FILENO, b" ");
-    io::print_decimal(STDOUT_FILENO, n);
+// What the reader hands over for a pattern.
+fn answer(out: &mut [u8; SIZE], pattern: &[u8]) -> usize {
+    let reading = reader::read(pattern);
+    let answer = reading.answer;
+    let arrays = reading.pattern;
+    let Answer::Refused { number, place } = answer else {
+        let masks = arrays.masks;
+        return printing::accepted(out, 0, arrays.len, arrays.leaves, members(&masks) as usize);
+    };
+    printing::refused(out, 0, number, place)
 }
 
-fn newline() {
-    io::write_all(STDOUT_FILENO, b"\n");
-}
-
-fn show_refused(n: u8, place: usize) {
-    io::write_all(STDOUT_FILENO, b"refused");
-    number(n as u64);
-    number(place as u64);
-    newline();
-}
-
-fn show_accepted(parts: usize, leaves: usize, members: u64) {
-    io::write_all(STDOUT_FILENO, b"accepted");
-    number(parts as u64);
-    number(leaves as u64);
-    number(members);
-    newline();
-}
-
-fn show(s: &[u8]) {
-    let r = reader::read(s);
-    let answer = r.answer;
-    let p = r.pattern;
-    match answer {
-        Answer::Refused {
-            number: n,
-            place: q,
-        } => show_refused(n, q),
-        Answer::Accepted => {
-            let masks = p.masks;
-            show_accepted(p.len, p.leaves, members(&masks));
+// Answers the patterns of the input, until it is over or a read or a write fails.
+fn run(chunk: &mut [u8; SIZE], line: &mut [u8; KEPT], out: &mut [u8; SIZE]) -> State
+    ensures { λ r. ⌜ Finished r ⌝ }
+{
+    let mut s = lines::start();
+    let mut turns = u64::MAX;
+    while turns > 0 && lines::goes_on(s) {
+        s = lines::next_line(chunk, line, s);
+        if s.whole {
+            let pattern = lines::first_of(line, s.n);
+            s.used = answer(out, pattern);
         }
+        s = lines::exchange(chunk, out, s);
+        turns -= 1;
     }
-}
-
-fn show_first(bytes: &[u8], n: usize) {
-    if n <= bytes.len() {
-        show(&bytes[..n]);
-    }
-}
-
-fn show_line(l: Line) {
-    let n = l.n;
-    let bytes = l.bytes;
-    show_first(&bytes, n);
-}
-
-fn byte(l: Line, b: u8) -> Line {
-    if b == b'\n' {
-        show_line(l);
-        return none();
-    }
-    let n = l.n;
-    let mut r = l;
-    r.any = true;
-    if n < 256 {
-        r.bytes[n] = b;
-        r.n = n + 1;
-    }
-    r
-}
-
-fn bytes(s: &[u8], l: Line) -> Line {
-    let mut r = l;
-    for i in 0..s.len() {
-        r = byte(r, s[i]);
-    }
-    r
-}
-
-fn some(l: Line) -> Step {
-    let mut buf = io::buffer();
-    let got = io::read_full(STDIN_FILENO, &mut buf);
-    if got == 0 {
-        return Step {
-            line: l,
-            more: false,
-        };
-    }
-    Step {
-        line: bytes(&buf[..got], l),
-        more: true,
-    }
+    lines::finish(s)
 }
 
 fn main() {
-    let mut turns = u64::MAX;
-    let mut s = Step {
-        line: none(),
-        more: true,
-    };
-    while turns > 0 && s.more {
-        let l = s.line;
-        s = some(l);
-        turns -= 1;
-    }
-    let l = s.line;
-    if l.any {
-        show_line(l);
-    }
+    let mut chunk = [0u8; SIZE];
+    let mut line = [0u8; KEPT];
+    let mut out = [0u8; SIZE];
+    let s = run(&mut chunk, &mut line, &mut out);
+    let source = s.source;
+    lines::tell(&mut out, source);
 }

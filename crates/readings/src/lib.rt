@@ -1,5 +1,7 @@
-// Both readings of a line, from the pattern's bytes. For many lines with one pattern: `reader::read` and `follow::tables_of` once, then `matchers::cut` for each.
+// Both readings of a line, from the pattern's bytes. For many lines with one pattern: `prepare` once, then `matchers::cut` for each.
+ghost use Rattle.standing.specs.Stands.{arrays};
 ghost use Rattle.readings.specs.Replies.{CutBy, Replied};
+ghost use Rattle.readings.specs.Tables.{Prepared};
 use arrays::Pattern;
 use matchers::Spans;
 use reader::Answer;
@@ -40,4 +42,37 @@ pub fn cut_line(pattern: &[u8], line: &[u8]) -> Reply
         answer: answer,
         spans: spans_by(arrays, line),
     }
+}
+
+// Reads a pattern and fills its tables, which then serve any number of lines. A refused pattern leaves them as they are.
+pub fn prepare(
+    pattern: &[u8],
+    masks: &mut [u64; 256],
+    rows: &mut [u8; 4225],
+    lens: &mut [u8; 65],
+    sets: &mut [u64; 65],
+    ends: &mut [u8; 65],
+) -> Answer
+    ensures prepared { λ r. ⌜ Prepared (now (pattern .entry))
+        (arrays (now (masks .entry)) (now (rows .entry)) (now (lens .entry)) (now (sets .entry)) (now (ends .entry))) r
+        (arrays (now (masks .exit)) (now (rows .exit)) (now (lens .exit)) (now (sets .exit)) (now (ends .exit))) ⌝ }
+{
+    let reading = reader::read(pattern);
+    let answer = reading.answer;
+    let Answer::Accepted = answer else {
+        return answer;
+    };
+    let arrays = reading.pattern;
+    let own_masks = arrays.masks;
+    let tables = follow::tables_of(arrays);
+    let own_rows = tables.rows;
+    let own_lens = tables.lens;
+    let own_sets = tables.sets;
+    let own_ends = tables.ends;
+    *masks = own_masks;
+    *rows = own_rows;
+    *lens = own_lens;
+    *sets = own_sets;
+    *ends = own_ends;
+    answer
 }

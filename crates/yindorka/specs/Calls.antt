@@ -5,21 +5,27 @@ use Prim.Native.Nat.{ℕ}
 use mathlib.Core.List.{List, [], _∷_}
 use Rattle.theory.specs.Pattern.{Re}
 use Rattle.theory.specs.Spans.{nowhere, span, greedy, posix}
-use Rattle.grammar.specs.Grammar.{Alternation}
-use Rattle.grammar.specs.Limits.{Reads}
-use Rattle.grammar.specs.Refusals.{Fault}
-use Rattle.grammar.specs.WriteOut.{writeOut}
 use Rattle.standing.specs.Stands.{Arrays, Lent}
+use Rattle.reader.specs.declared.Answer.{Answer}
+use Rattle.reader.specs.declared.Answer.the-variants.{Accepted, Refused}
+use Rattle.readings.specs.Tables.{Prepared}
 use Rattle.checker.specs.declared.Verdict.{Verdict}
-use Rattle.checker.specs.declared.Verdict.the-variants.{Alike, Unlike, Refused}
+use Rattle.checker.specs.declared.Verdict.the-variants.{Alike, Unlike}
+use Rattle.checker.specs.declared.Verdict.the-variants as Verdicts
 use Rattle.checker.specs.Verdicts.{Checks}
 use Rattle.yindorka.specs.declared.Refusal.{Refusal}
 use Rattle.yindorka.specs.declared.Outcome.{Outcome}
 
--- Number 0: the pattern is accepted, and the tables are its own. Else it is refused with number and place, and the tables are kept.
-pub data Prepared (p : List ℕ) (old : Arrays) : Refusal → Arrays → Type 0 where
-  ready : {a : Alternation} {new : Arrays} → Reads p a → Lent (writeOut a) new → Prepared p old (record { number = 0; place = 0 }) new
-  refused : {n k : ℕ} → Fault p n k → Prepared p old (record { number = n; place = k }) old
+-- Number 0: the pattern is accepted. Else it is refused with number and place.
+abbrev pub refusalOf : Answer → Refusal
+refusalOf Accepted = record { number = 0; place = 0 }
+refusalOf (Refused n k) = record { number = n; place = k }
+
+-- The tables are an accepted pattern's own, or they are kept.
+pub record Prepares (p : List ℕ) (old : Arrays) (r : Refusal) (new : Arrays) : Type 0 where
+  pub answer : Answer
+  pub prepared : Prepared p old answer new
+  pub means : r ≡ refusalOf answer
 
 -- 1: both spans begin at the first number, the greedy one ends at the second and the POSIX one at the third. 0: neither is there, and the numbers are kept.
 pub data CutTo (r : Re) (w old : List ℕ) : ℕ → List ℕ → Type 0 where
@@ -34,7 +40,7 @@ pub record Cuts (t : Arrays) (w old : List ℕ) (x : ℕ) (new : List ℕ) : Typ
 abbrev pub outcomeOf : Verdict → Outcome
 outcomeOf (Alike n) = record { kind = 0; first = n; second = 0 }
 outcomeOf (Unlike n k) = record { kind = 1; first = n; second = k }
-outcomeOf (Refused n q) = record { kind = 2; first = n; second = q }
+outcomeOf (Verdicts.Refused n q) = record { kind = 2; first = n; second = q }
 
 pub record Decided (p t v : List ℕ) (x : Outcome) (t′ v′ : List ℕ) : Type 0 where
   pub verdict : Verdict

@@ -1,7 +1,7 @@
 // The library for other languages: a pattern's tables, both spans of a line by them, and the checker. No function keeps a state, allocates or fails: a pattern that is no pattern is refused.
 ghost use mathlib.Core.Path.{_≡_};
 ghost use Rattle.standing.specs.Stands.{arrays};
-ghost use Rattle.yindorka.specs.Calls.{Prepared, Cuts, Decided, outcomeOf};
+ghost use Rattle.yindorka.specs.Calls.{refusalOf, Prepares, Cuts, Decided, outcomeOf};
 use checker::Verdict;
 use matchers::Spans;
 use reader::Answer;
@@ -21,6 +21,21 @@ pub struct Outcome {
     pub second: usize,
 }
 
+fn refusal_of(x: Answer) -> Refusal
+    ensures { λ r. ⌜ r ≡ refusalOf x ⌝ }
+{
+    match x {
+        Answer::Accepted => Refusal {
+            number: 0,
+            place: 0,
+        },
+        Answer::Refused { number, place } => Refusal {
+            number: number as usize,
+            place: place,
+        },
+    }
+}
+
 // Reads a pattern and fills its tables, which then serve any number of lines. A refused pattern leaves them as they are.
 #[no_mangle]
 pub extern "C" fn yindorka_prepare(
@@ -31,34 +46,11 @@ pub extern "C" fn yindorka_prepare(
     sets: &mut [u64; 65],
     ends: &mut [u8; 65],
 ) -> Refusal
-    ensures prepared { λ r. ⌜ Prepared (now (pattern .entry))
+    ensures prepared { λ r. ⌜ Prepares (now (pattern .entry))
         (arrays (now (masks .entry)) (now (rows .entry)) (now (lens .entry)) (now (sets .entry)) (now (ends .entry))) r
         (arrays (now (masks .exit)) (now (rows .exit)) (now (lens .exit)) (now (sets .exit)) (now (ends .exit))) ⌝ }
 {
-    let reading = reader::read(pattern);
-    let answer = reading.answer;
-    let Answer::Refused { number, place } = answer else {
-        let arrays = reading.pattern;
-        let own_masks = arrays.masks;
-        let tables = follow::tables_of(arrays);
-        let own_rows = tables.rows;
-        let own_lens = tables.lens;
-        let own_sets = tables.sets;
-        let own_ends = tables.ends;
-        *masks = own_masks;
-        *rows = own_rows;
-        *lens = own_lens;
-        *sets = own_sets;
-        *ends = own_ends;
-        return Refusal {
-            number: 0,
-            place: 0,
-        };
-    };
-    Refusal {
-        number: number as usize,
-        place: place,
-    }
+    refusal_of(readings::prepare(pattern, masks, rows, lens, sets, ends))
 }
 
 // Both spans of a line of any length: 1 and the start, the greedy end and the POSIX end, or 0.
@@ -116,4 +108,12 @@ pub extern "C" fn yindorka_check(pattern: &[u8], table: &mut [u8], witness: &mut
     ensures decided { λ r. ⌜ Decided (now (pattern .entry)) (now (table .entry)) (now (witness .entry)) r (now (table .exit)) (now (witness .exit)) ⌝ }
 {
     numbers_of(checker::check(pattern, table, witness))
+}
+
+// The version of the library: 10000 is 1.0.0.
+#[no_mangle]
+pub extern "C" fn yindorka_version() -> u32
+    ensures version { λ r. ⌜ r ≡ 10000 ⌝ }
+{
+    10000
 }

@@ -1,5 +1,7 @@
 -- `answers::answer` meets its contract: the line is that of the checker's verdict.
 -- Assumes nothing.
+use native.Mathlib.Omega.{arith}
+use Rattle.verdict.proofs.Demand.{lengths-kept}
 use borrow.Author.Needs.{needs}
 use Rattle.answers.proofs.answer.Statement.{statement}
 use Rattle.answers.proofs.answer.Tie as tie
@@ -7,24 +9,14 @@ use Rattle.answers.proofs.answer.Tie as tie
 returns : tie.Need-returns
 returns c =
     let x = c .before .before .before .before .before .check in
-    record {
-      verdict = x .result;
-      table = _;
-      witness = _;
-      checks = x .ensures;
-      printed = rw (c .before .before .before .before .if1 .taken) (c .explained .ensures _ _ _ (x .ensures));
-    }
+    let p = c .explained .ensures _ _ _ (x .ensures) in
+    (p .0, record { verdict = x .result; checks = x .ensures; line = rw (c .before .before .before .before .if1 .taken) (p .1) }, omega (arith, p .2, lengths-kept (x .ensures) .1), p .3)
 
 returns-2 : tie.Need-returns-2
 returns-2 c =
     let x = c .before .before .before .before .before .check in
-    record {
-      verdict = x .result;
-      table = _;
-      witness = _;
-      checks = x .ensures;
-      printed = rw (c .before .before .before .before .if1 .left) (c .verdict .ensures);
-    }
+    let p = c .verdict .ensures in
+    (p .0, record { verdict = x .result; checks = x .ensures; line = rw (c .before .before .before .before .if1 .left) (p .1) }, omega (arith, p .2, lengths-kept (x .ensures) .1), p .3)
 
 pub answer-spec : {M : Type 1} → statement M
 answer-spec =

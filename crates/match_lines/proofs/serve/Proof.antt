@@ -1,28 +1,26 @@
--- `match_lines::serve` is safe and ends: the measure is the turns left.
+-- `match_lines::serve` meets its contract: the pattern is refused, or the order lines are answered.
 -- Assumes nothing.
 use borrow.Author.Needs.{needs}
+use Rattle.lines.proofs.Exchanging.{nothing-written}
 use Rattle.match_lines.proofs.serve.Statement.{statement}
 use Rattle.match_lines.proofs.serve.Tie as tie
 
-abbrev Inv-loop : tie.InvT-loop
-Inv-loop chunk₀ line₀ out₀ masks rows lens sets ends input₀ output₀ turns₀ chunk line out input output turns = Unit
+returns : tie.Need-returns
+returns c = c .run .ensures .used
 
-abbrev μ-loop : tie.MeasureT-loop
-μ-loop chunk₀ line₀ out₀ masks rows lens sets ends input₀ output₀ turns₀ chunk line out input output turns = turns
+returns-2 : tie.Need-returns-2
+returns-2 c = nothing-written (c .write-out .ensures)
 
 pub serve-spec : {M : Type 1} → statement M
 serve-spec =
     tie.close
     (tie.spec
-    Inv-loop
-    μ-loop
     (λ c κs. search needs)
-    (λ c. search needs)
-    (λ c κs. search needs)
-    (λ c. search needs)
     (λ c κs. search needs)
     (λ c. search needs)
     (λ c. search needs)
-    (λ c. search needs)
-    (λ c. search needs)
-    (λ c. search needs))
+    (λ c κs. search needs)
+    returns
+    (λ c κs. search needs)
+    (λ c κs. search needs)
+    returns-2)

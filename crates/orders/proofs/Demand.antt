@@ -1,0 +1,71 @@
+-- What the answer to an order line says, from the pattern's bytes and in the words of demand 2.
+-- Assumes nothing.
+use mathlib.Core.Path.{_≡_, sym, _∙_, subst}
+use mathlib.Core.Logic.{_⊎_, inl, inr, _↔_}
+use Prim.Native.Nat.{ℕ, _≤_, _<_, min}
+use mathlib.Core.List.{List}
+use native.Mathlib.Omega.{arith}
+use native.Mathlib.Decide.{decLt}
+use lib.ListN.{length, take, length-take}
+use lib.Seq.{take-all}
+use Rattle.theory.specs.Pattern.{Re}
+use Rattle.theory.specs.Demand.{GreedyTakes, PosixTakes, NoMatch}
+use Rattle.theory.proofs.Demand.{greedy-takes, posix-takes, greedy-none}
+use Rattle.grammar.specs.Grammar.{Alternation}
+use Rattle.grammar.specs.Limits.{Reads}
+use Rattle.grammar.specs.WriteOut.{writeOut}
+use Rattle.grammar.proofs.Right.{unambiguous, not-both}
+use Rattle.reader.specs.declared.Answer.{Answer}
+use Rattle.standing.specs.Stands.{Arrays, Lent}
+use Rattle.readings.specs.Tables.{Prepared, ready, refused}
+use Rattle.printing.specs.Text.{Printed, RefusedLine, SpansLine, noneLine}
+use Rattle.lines.specs.declared.State.{State}
+use Rattle.lines.specs.Lines.{kept}
+use Rattle.lines.specs.Answers.{Served}
+use Rattle.orders.specs.Orders.{OrderLine, long, cut, uncut, Answered, OrderAnswer, OrdersServed}
+
+-- 9 for a line above 1,024 bytes; else the spans that demand 2 asks for, or 'none' where no part of the line matches.
+pub order-means : {r : Re} {l w : List ℕ} → OrderLine r l w
+    → ((1024 < length l) × RefusedLine 9 0 w) ⊎ (((i j k : ℕ) × GreedyTakes r l i j × PosixTakes r l i k × SpansLine i j k w) ⊎ (NoMatch r l × (w ≡ noneLine)))
+order-means (long h is) = inl (h, is)
+order-means {r} {l} (cut {i} {j} {k} h g p is) = inr (inl (i, j, k, greedy-takes r l i j .0 g, posix-takes r l i k .0 p, is))
+order-means {r} {l} (uncut h g p is) = inr (inr (greedy-none r l .0 g, is))
+
+-- WHAT IS KEPT IS ENOUGH: an order line and its first 1,025 bytes have the same answer.
+pub order-kept : (r : Re) (l w : List ℕ) → OrderLine r (kept l) w ↔ OrderLine r l w
+order-kept r l w =
+    elim (decLt 1024 (length l)) [
+      | yes h ↦ (λ o. again h o, λ o. first h o)
+      | no h ↦ (let e = take-all 1025 l (omega arith) in (λ o. subst (λ x. OrderLine r x w) e o, λ o. subst (λ x. OrderLine r x w) (sym e) o))
+    ]
+  where
+    size : 1024 < length l → length (kept l) ≡ 1025
+    size h = let p : length (kept l) ≡ min 1025 (length l) = length-take 1025 l in omega arith
+
+    again : 1024 < length l → OrderLine r (kept l) w → OrderLine r l w
+    again h (long i is) = long h is
+    again h (cut i g p is) = absurd (let z = size h in omega arith)
+    again h (uncut i g p is) = absurd (let z = size h in omega arith)
+
+    first : 1024 < length l → OrderLine r l w → OrderLine r (kept l) w
+    first h (long i is) = long (let z = size h in omega arith) is
+    first h (cut i g p is) = absurd (omega arith)
+    first h (uncut i g p is) = absurd (omega arith)
+
+-- The tables that a pattern of the grammar is prepared with are its own,
+module _ {p : List ℕ} (a : Alternation) (reads : Reads p a) {old new : Arrays} {x : Answer} (prepared : Prepared p old x new) where
+  own-tables : Lent (writeOut a) new
+  own-tables = go prepared
+    where
+      go : Prepared p old x new → Lent (writeOut a) new
+      go (ready {a = b} e h t) = subst (λ c. Lent (writeOut c) new) (unambiguous p b a h reads) t
+      go (refused {n = n} {k = k} e f q) = absurd (not-both p a n k reads f)
+
+  -- THE ANSWER TO AN ORDER LINE IS THE PATTERN'S, whatever the line: nothing is left to be asked of the tables.
+  pub order-answered : {l out out′ : List ℕ} {n m : ℕ} → Answered new l out n out′ m → Printed 97 (OrderLine (writeOut a) l) out n out′ m
+  order-answered h = h .answered own-tables
+
+  -- and so are the answers to the lines of a chunk.
+  pub orders-answered : {chunk line out line′ out′ : List ℕ} {s t : State} → OrdersServed new chunk line out s line′ out′ t
+      → Served (OrderAnswer (writeOut a)) 97 chunk line out tt s line′ out′ tt t
+  orders-answered h = h .served own-tables

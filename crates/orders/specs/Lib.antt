@@ -1,0 +1,2 @@
+-- The lines that answer order lines.
+pub mod Orders

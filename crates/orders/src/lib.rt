@@ -1,0 +1,69 @@
+// What the second program prints for order lines: both spans, 'none' or a refusal (paper 01, "The programs").
+ghost use Rattle.lines.specs.Answers.{Served};
+ghost use Rattle.standing.specs.Stands.{arrays};
+ghost use Rattle.orders.specs.Orders.{Answered, OrdersServed};
+use lines::KEPT;
+use lines::SIZE;
+use lines::State;
+use matchers::Spans;
+
+// "9, a line above 1,024 bytes".
+pub const MAX_BYTES: usize = 1024;
+
+// No printed line is longer: 'greedy', two numbers, 'posix' and two numbers, each of at most 20 digits.
+const LONGEST: usize = 97;
+
+// Appends the answer to an order line, by the tables of the pattern.
+pub fn answer<'a>(
+    out: &mut [u8; SIZE],
+    n: usize,
+    line: &'a [u8],
+    masks: &'a [u64; 256],
+    rows: &'a [u8; 4225],
+    lens: &'a [u8; 65],
+    sets: &'a [u64; 65],
+    ends: &'a [u8; 65],
+) -> usize
+    ensures answered { λ r. ⌜ Answered (arrays (now (masks .entry)) (now (rows .entry)) (now (lens .entry)) (now (sets .entry)) (now (ends .entry)))
+        (now (line .entry)) (now (out .entry)) n (now (out .exit)) r ⌝ }
+{
+    if line.len() > MAX_BYTES {
+        return printing::refused(out, n, 9, 0);
+    }
+    let spans = matchers::cut(line, masks, rows, lens, sets, ends);
+    let Spans::Located {
+        start,
+        greedy,
+        posix,
+    } = spans
+    else {
+        return printing::none(out, n);
+    };
+    printing::spans(out, n, start, greedy, posix)
+}
+
+// Answers the order lines that end in the chunk, in their order, while there is room for a further answer.
+pub fn answer_lines<'a>(
+    chunk: &'a [u8; SIZE],
+    line: &mut [u8; KEPT],
+    out: &mut [u8; SIZE],
+    masks: &'a [u64; 256],
+    rows: &'a [u8; 4225],
+    lens: &'a [u8; 65],
+    sets: &'a [u64; 65],
+    ends: &'a [u8; 65],
+    state: State,
+) -> State
+    ensures served { λ r. ⌜ OrdersServed (arrays (now (masks .entry)) (now (rows .entry)) (now (lens .entry)) (now (sets .entry)) (now (ends .entry)))
+        (now (chunk .entry)) (now (line .entry)) (now (out .entry)) state (now (line .exit)) (now (out .exit)) r ⌝ }
+{
+    let mut s = state;
+    while s.at < s.end && lines::has_room(s.used, LONGEST) {
+        s = lines::next_line(chunk, line, s);
+        if s.whole {
+            let order = lines::first_of(line, s.n);
+            s.used = answer(out, s.used, order, masks, rows, lens, sets, ends);
+        }
+    }
+    s
+}

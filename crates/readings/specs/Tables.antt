@@ -1,0 +1,17 @@
+-- The tables of a pattern, lent by the caller.
+-- Assumes nothing.
+use mathlib.Core.Path.{_≡_}
+use Prim.Native.Nat.{ℕ}
+use mathlib.Core.List.{List}
+use Rattle.grammar.specs.Grammar.{Alternation}
+use Rattle.grammar.specs.Limits.{Reads}
+use Rattle.grammar.specs.Refusals.{Fault}
+use Rattle.grammar.specs.WriteOut.{writeOut}
+use Rattle.standing.specs.Stands.{Arrays, Lent}
+use Rattle.reader.specs.declared.Answer.{Answer}
+use Rattle.reader.specs.declared.Answer.the-variants.{Accepted, Refused}
+
+-- The pattern is accepted, and the tables are its own; or it is refused, and they are kept.
+pub data Prepared (p : List ℕ) (old : Arrays) (x : Answer) (new : Arrays) : Type 0 where
+  ready : {a : Alternation} → x ≡ Accepted → Reads p a → Lent (writeOut a) new → Prepared p old x new
+  refused : {n k : ℕ} → x ≡ Refused n k → Fault p n k → new ≡ old → Prepared p old x new
