@@ -40,6 +40,10 @@ int main(int n, char **words)
         fprintf(stderr, "usage: example PATTERN LINE..\n");
         return 2;
     }
+    if (yindorka_version() != YINDORKA_VERSION_NUMBER) {
+        fprintf(stderr, "example: the library is of another version than its header\n");
+        return 2;
+    }
     const uint8_t *pattern = (const uint8_t *)words[1];
     size_t length = strlen(words[1]);
     show_verdict(yindorka_check(pattern, length, table, sizeof table, witness, sizeof witness));

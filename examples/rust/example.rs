@@ -5,7 +5,9 @@ use std::io::{self, Write};
 use std::os::unix::ffi::OsStringExt;
 use std::process::exit;
 
-// The library's structs and functions, as include/yindorka.h has them.
+// The library's version, structs and functions, as include/yindorka.h has them.
+const VERSION: u32 = 10000;
+
 #[repr(C)]
 struct Refusal {
     number: usize,
@@ -20,6 +22,7 @@ struct Outcome {
 }
 
 extern "C" {
+    fn yindorka_version() -> u32;
     fn yindorka_prepare(
         pattern: *const u8,
         length: usize,
@@ -176,6 +179,11 @@ fn main() {
     let words: Vec<Vec<u8>> = env::args_os().skip(1).map(|word| word.into_vec()).collect();
     if words.is_empty() {
         eprintln!("usage: example PATTERN LINE..");
+        exit(2);
+    }
+    // Safe: it takes nothing.
+    if unsafe { yindorka_version() } != VERSION {
+        eprintln!("example: the library is of another version than this file");
         exit(2);
     }
     match show_all(&words) {
