@@ -47,7 +47,7 @@ pub line-step : {t : List ℕ} {k : ℕ} {w : List ℕ} → 0 < k → Line t k w
 line-step p empty = absurd (omega arith)
 line-step p (comes {w = w} q h x) = record { before = w; lower = h; line = x; added = refl }
 
--- THE LINE OF RECORD k IS LINE k, in a table that a search has filled.
+-- The line of record k is line k, in a table that a search has filled.
 zero-line : (r : Re) {L : List (List ℕ)} → Records r L → 0 < length L → at L 0 ≡ []
 zero-line r {L} a l = go (at L 0) refl (from-where (at L 0))
   where
@@ -87,7 +87,7 @@ set-sets : (u v : List ℕ) (i j b : ℕ) → i < j → set (sets v j u) i b ≡
 set-sets [] v i j b h = refl
 set-sets (y ∷ u) v i j b h = set-sets u (set v j y) i (suc j) b (omega arith) ∙ ap (λ x. sets x (suc j) u) (set-comm v j i y b λ e. omega arith)
 
--- BACK FROM RECORD k₀: record k has the front of its line, and the rest is behind.
+-- Back from record k₀: record k has the front of its line, and the rest is behind.
 pub record Back (t : List ℕ) (k₀ k : ℕ) (front rest : List ℕ) : Type 0 where
   pub line : Line t k front
   pub whole : Line t k₀ (front ++ rest)
@@ -178,7 +178,7 @@ write-end {t} {k₀} {k} {i} {v₀} z x w y =
     let all : x .rest ≡ w = line-one line y in
     x .written ∙ ap₂ (sets v₀) first all ∙ sym (onto-sets v₀ w (omega (arith, x .room, ap length all)))
 
--- HANDED OVER, or too long for the buffer.
+-- Handed over, or too long for the buffer.
 pub handed-given : {t : List ℕ} {n k : ℕ} {v v′ : List ℕ} → Lined t (n - 1) → Length t (n - 1) k → k ≤ length v → Written t (n - 1) v v′ → Handed t n v (Unlike n k) v′
 handed-given {t} {n} {k} {v} {v′} (w, x) size room written =
     let e = size w x in

@@ -58,7 +58,7 @@ map-closes : (p : List ℕ) (i : ℕ) → map (tokenOf p) (closeCodes i) ≡ clo
 map-closes p zero = refl
 map-closes p (suc i) = ap (λ l. both ∷ nil ∷ or ∷ l) (map-closes p i)
 
--- WHAT REPEATS MAKE of a part y with the codes k.
+-- What repeats make of a part y with the codes k.
 module _ (p k : List ℕ) (y : Re) (h : map (tokenOf p) k ≡ tokens y) where
   pub star-codes : map (tokenOf p) (k ++ (3 ∷ [])) ≡ tokens (star y)
   unfolding tokens

@@ -37,7 +37,7 @@ and-cases true true t = (tt, tt)
 and-cases true false t = absurd t
 and-cases false b t = absurd t
 
--- TWO SETS MEET exactly if their numbers have a bit in common. Of x only the first 64 bits are known, and of y those that x has.
+-- Two sets meet exactly if their numbers have a bit in common. Of x only the first 64 bits are known, and of y those that x has.
 pub meets-bits : (x y : ℕ) (l set : List ℕ) → ((q : ℕ) → q < 64 → hasBit x q ≡ member q l) → ((q : ℕ) → T (hasBit x q) → hasBit y q ≡ member q set) → ((q : ℕ) → T (member q set) → q < 64)
     → not (eqb (bitAnd x y) 0) ≡ meets l set
 meets-bits x y l set hx hy small = rw (meets-any l set) (go (any (λ p. member p set) l) refl)

@@ -26,7 +26,7 @@ use Rattle.standing.specs.Stands.{means, arrays, Lent, Fine}
 use Rattle.matchers.proofs.Back.{below-at}
 use Rattle.matchers.specs.Passes.{Same, kindOf, Run}
 
--- (a) IS WITHIN (c), for the standing of a line.
+-- (a) is within (c), for the standing of a line.
 fronts-wanted : {K : Type 0} (l : List (Outcome K)) → Within (fronts l) (wanted l)
 fronts-wanted [] p t = t
 fronts-wanted (endsAt k ∷ l) p t = absurd t
@@ -86,7 +86,7 @@ module _ (r : Re) (masks rows lens sets ends : List ℕ) (lent : Lent r (arrays 
       seen : (j : ℕ) → hasBit (kindOf masks w (s .all) j) p ≡ hasBit (getD masks (getD w j 0) 0) p
       seen j = and-bit _ (s .all) p ∙ ap (λ c. hasBit (getD masks (getD w j 0) 0) p && c) there ∙ and-true _
 
-  -- BYTES OF ONE KIND carry the standing of a line to the same one.
+  -- Bytes of one kind carry the standing of a line to the same one.
   pub next-alike : (v : List ℕ) → means (count r) s ≡ standing r v → (i k : ℕ) → i < length w → k < length w → kindOf masks w (s .all) k ≡ kindOf masks w (s .all) i
       → next r (means (count r) s) (getD w k 0) ≡ next r (means (count r) s) (getD w i 0)
   next-alike v line i k h l e =

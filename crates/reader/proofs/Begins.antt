@@ -132,7 +132,7 @@ no-repeat b x y z w = go (kind b) (kind-ok b)
     go stray h = refl
     go (sign r) h = absurd (sign-not b x y z w r (h .1) (h .2))
 
--- THE FAULTS of an atom's first byte.
+-- The faults of an atom's first byte.
 module _ {p : List ℕ} {at d : ℕ} (b : Begun p at d) (i : at < length p) where
   pub fault-escape-last : getD p at 0 ≡ 92 → at + 1 ≡ length p → Fault p 3 at
   fault-escape-last e h = begin-fault (b .begin) 3 (92 ∷ []) (byte-drop p at 92 i e ∙ ap (λ l. 92 ∷ l) (drop-all p (at + 1) h)) escapeLast

@@ -88,7 +88,7 @@ module _ {p a b : List ℕ} {n m e c : ℕ} (short : length p ≤ 255) (t : Alte
         let codes : take m b ≡ t .wrote .codes = holds .same ∙ take-all 2303 (t .wrote .codes) size in
         f (shape (t .t)) (ap (map (tokenOf p)) codes ∙ t .wrote .are) (omega (arith, number-count 0 (shape (t .t)), leaves-64 p (t .t) r))
 
--- THE ANSWER IS RIGHT, with the arrays that were made for an accepted pattern, and the empty ones for any other.
+-- The answer is right, with the arrays that were made for an accepted pattern, and the empty ones for any other.
 module _ {p : List ℕ} (short : length p ≤ 255) (x : Pattern) where
   refuse : (r : Answer) (n q : ℕ) → r ≡ Answer.Refused n q → Fault p n q → ((k j : ℕ) → r ≡ Answer.Refused k j → x ≡ blank) → ReadRight p (record { answer = r; pattern = x })
   refuse r n q e f h = let z = h n q e in rw e (record { answer = Due.refused n q; right = f; means = refl; beside = z })

@@ -61,7 +61,7 @@ module _ {p : List ℕ} {F : ℕ → ℕ → Type 0} where
   pub known : {e c : ℕ} {r : Part} → r ≡ Read e c → PartRead p F r → F e c
   known x h = finding (rw x at h)
 
--- REPEATS.
+-- Repeats.
 rewrote : {p : List ℕ} {n from m : ℕ} {a b : List ℕ} (x : Repeat) (f : List ℕ → List ℕ) → Rewritten a n from f b m → ((k : List ℕ) (y : Re) → map (tokenOf p) k ≡ tokens y → map (tokenOf p) (f k) ≡ tokens (repeatOf x y))
     → (y : Re) → Rewrote p a n from b m y (repeatOf x y)
 rewrote x f r g y = record { codes = f; are = λ k. g k y; holds = r .holds }
@@ -122,7 +122,7 @@ module _ {p : List ℕ} {at v n from : ℕ} {a : List ℕ} where
   pub other-here : at < length p → getD p at 0 ≢ 42 → getD p at 0 ≢ 43 → getD p at 0 ≢ 63 → getD p at 0 ≢ 123 → Repeated p at v at v a n from a n
   other-here h x y z w = none-here (omega arith) (rw (at-drop p at h) (no-repeat (getD p at 0) x y z w))
 
--- SEQUENCES. A part and the parts after it.
+-- Sequences. A part and the parts after it.
 joined : {p : List ℕ} {u n₂ n₃ m : ℕ} {f g₂ g₃ g : List ℕ} {n : ℕ} (q : Sequence) (z : Re) → Wrote p f n g₂ n₂ (tokens z) → Wrote p g₂ n₂ g₃ n₃ (tokensOf (parts q)) → Weighs u (weights q) (heaviestWithin q)
     → ((u ≡ 0 → ⊥) → Added g₃ n₃ (1 ∷ []) g m) → (u ≡ 0 → (g ≡ g₃) × (m ≡ n₃)) → Wrote p f n g m (tokensOf (z ∷ parts q))
 unfolding weight heaviest shape tokensOf chain tokens
@@ -174,7 +174,7 @@ module _ {p : List ℕ} {at d : ℕ} where
             (x .load (weightAtom (a .x)) (heaviestAtom (a .x)) (atom-heaviest (a .x)) (a .load)) (q .load) (λ f g h. omega arith) (λ f. omega arith);
       }
 
-  -- ALTERNATIONS.
+  -- Alternations.
   pub alternation-last : {e c n n₁ m : ℕ} {f g₁ g : List ℕ} (r : ℕ) → Sequenced p at d e c f n g₁ n₁ → (c ≡ 0 → Added g₁ n₁ (0 ∷ []) g m) → ((c ≡ 0 → ⊥) → (g ≡ g₁) × (m ≡ n₁)) → r ≡ max 1 c
       → (e < length p → getD p e 0 ≢ 124) → Alternated p at d e r f n g m
   unfolding weight heaviest shape
@@ -209,7 +209,7 @@ module _ {p : List ℕ} {at d : ℕ} where
             (or-light (max 1 (weights (q .q))) (weight (t .t)) (heaviestWithin (q .q)) (heaviest (t .t))) (or-heavy (max 1 (weights (q .q))) (weight (t .t)) (heaviestWithin (q .q)) (heaviest (t .t)));
       }
 
--- ATOMS.
+-- Atoms.
 module _ {p : List ℕ} {at d : ℕ} (b : Begun p at d) (i : at < length p) {n m : ℕ} {f g : List ℕ} where
   -- A leaf, whose code is that of its place.
   module _ (u : Added f n ((4 + at) ∷ []) g m) where

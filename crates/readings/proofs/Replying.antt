@@ -46,7 +46,7 @@ replied {p} {w} r s h a b = record {
   beside = beside w (r .pattern) s (r .answer) b;
 }
 
--- THE REPLY IS THE ONE DUE: of an accepted pattern both spans by its arrays,
+-- The reply is the one due: of an accepted pattern both spans by its arrays,
 pub replied-accepted : {p w : List ℕ} (r : Reading) (s : Spans) → ReadRight p r → r .answer ≡ Accepted → CutBy (r .pattern) w s → Replied p w (record { answer = r .answer; spans = s })
 replied-accepted r s h e k = replied r s h (λ f. k .cut (accepted-leaves h e .0) (accepted-leaves h e .1) (accepted-holds h e)) (λ n q f. absurd (apart e f))
 

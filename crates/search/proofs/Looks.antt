@@ -34,11 +34,11 @@ module _ (r : Re) {t₀ : List ℕ} {L : List (List ℕ)} {t : List ℕ} (h : Ho
     all-slots : min n (length t / 64) ≡ n
     all-slots = min-eq-left (omega (arith, same-length, slots-fit (length t₀), h .fits))
 
-    -- FOUND: record k has the standing.
+    -- Found: record k has the standing.
     pub found : k < n → standing r (at L k) ≡ standing r w
     found l = agree-same r d few (at L k) w _ _ o b (subst (λ x. Agree x (recordBytes (standing r w) o b)) (slot-record k (omega arith)) (looked .here (omega (arith, all-slots))))
 
-    -- NOT FOUND: none has.
+    -- Not found: none has.
     pub not-found : n ≤ k → (j : ℕ) → j < n → standing r (at L j) ≢ standing r w
     not-found g j l e =
         looked .before j (omega arith)

@@ -261,7 +261,3 @@ module _ (r : Re) (d : Numbered 0 r) where
       let at = from-place r w j (omega arith) in
       let b = cut-at-start (drop j w) (λ e. c .2 (ap firstEnd at ∙ shift-first j (outcomes r (drop j w) 0) ∙ ap (Option·map (λ k. j + k)) e ∙ sym (shift-greatest j (outcomes r (drop j w) 0)) ∙ sym (ap greatestEnd at))) in
       (take j w, b .0, b .1, sym (take-append-drop j w) ∙ ap (λ x. take j w ++ x) (b .2), b .3)
-
-  -- The witness is no longer than the line.
-  pub cut-shorter : (w u v t : List ℕ) → w ≡ u ++ (v ++ t) → length v ≤ length w
-  cut-shorter w u v t e = omega (arith, ap length e, length-append u (v ++ t), length-append v t)

@@ -7,15 +7,12 @@ use mathlib.Core.List.{List, [], _∷_, _++_, List·Memᴰ·head as head, List·
 use mathlib.Core.Option.{Option, none, some}
 use native.Mathlib.Omega.{arith}
 use native.Mathlib.Decide.{ℕ-discrete, decLt}
-use lib.ListN.{length, length-append}
-use lib.Seq.{getD-append-seam}
-use Rattle.theory.specs.Pattern.{Re, Numbered}
+use lib.ListN.{length}
+use Rattle.theory.specs.Pattern.{Re}
 use Rattle.theory.specs.Outcomes.{Outcome, endsAt, wants, outcomes}
 use Rattle.theory.specs.Matching.{Matches}
 use Rattle.theory.specs.Spans.{firstEnd, greatestEnd, Span, nowhere, span, spanOr, leftmost, greedy, posix, CutDifferently}
 use Rattle.theory.specs.Lines.{Below}
-use Rattle.theory.specs.Records.{Alike, Unlike}
-use Rattle.theory.proofs.Records.{alike-right, unlike-right}
 use Rattle.theory.specs.Preference.{Prefer, MatchSet, FromLeft, Greedy, Posix, Denotes, LeastEnd, Robust}
 use Rattle.theory.proofs.Tests.{either}
 use Rattle.theory.proofs.Equations.{outcomes-all}
@@ -117,13 +114,3 @@ robust n r = (
   λ h w b. h w b (greedy r w) (posix r w) (greedy-denoted r w) (posix-denoted r w),
   λ h w b s t p q. (greedy-denotation r w s) .0 p ∙ h w b ∙ sym ((posix-denotation r w t) .0 q),
 )
-
--- What the search says of a pattern, in source 000's words.
-module _ (r : Re) (d : Numbered 0 r) where
-  pub alike-robust : {L : List (List ℕ)} → Alike r L → Robust 256 r
-  alike-robust a = robust 256 r .1 (alike-right r d a)
-
-  pub unlike-robust : {L : List (List ℕ)} {w : List ℕ} → Unlike r L w → Robust 256 r → ⊥
-  unlike-robust {L} {w} a h =
-      let size : length L < length (L ++ (w ∷ [])) = omega (arith, length-append L (w ∷ [])) in
-      unlike-right r d a (robust 256 r .0 h w (subst (Below 256) (getD-append-seam L w [] []) (a .records .bytes (length L) size)))

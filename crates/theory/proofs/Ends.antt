@@ -55,7 +55,7 @@ module _ (r : Re) (b n : ℕ) where
       let c = or-none (hasEnd (after r b p)) (hasEnd (afters r b (wanted l))) (rw hasEnd-append at e) in
       greatest-place (suc n) (after r b p) (grow r b n l) (c .0) ∙ grow-same-end l (c .1)
 
--- THE GREEDY END MOVES TO THE LINE'S END WHERE (b) HOLDS, AND THE POSIX END WHERE (d) HOLDS.
+-- The greedy end moves to the line's end where (b) holds, and the POSIX end where (d) holds.
 module _ (r : Re) (d : Numbered 0 r) (w : List ℕ) (b : ℕ) where
   size : length (w ++ (b ∷ [])) ≡ suc (length w)
   size = omega (arith, length-append w (b ∷ []))

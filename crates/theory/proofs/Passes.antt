@@ -88,7 +88,7 @@ module _ (r : Re) (d : Numbered 0 r) where
         ∙ forward-shift f i (drop i w) (standing r []) 0 (e (outcomes r [] 0))
         ∙ ap₂ (forward r f (drop i w) (standing r [])) (add-zero i) (ap (Option·map (λ k. i + k)) starts ∙ shift-start (f (standing r [])) i)
 
-  -- THE GREEDY END FROM THE PLACE i IS THE LAST PLACE WHERE (b) HOLDS, AND THE POSIX END THE LAST WHERE (d) HOLDS.
+  -- The greedy end from the place i is the last place where (b) holds, and the POSIX end the last where (d) holds.
   pub greedy-end : (w : List ℕ) (i : ℕ) → i ≤ length w → firstEnd (outcomes r w i) ≡ farthest r (λ s. s .first) (drop i w) i
   greedy-end = last-place (λ s. s .first) firstEnd (first-moves r d) first-start shift-first
 
@@ -117,7 +117,7 @@ module _ (r : Re) (d : Numbered 0 r) where
       posix-stop rest (next r s b) (suc i) (cond (next r s b .some) (some (suc i)) o) (ap (λ l. setOf r (wanted (afters r b l))) e ∙ none-set)
       ∙ ap (λ l. cond (hasEnd (afters r b l)) (some (suc i)) o) e
 
--- BOTH SPANS: one pass back for the start, one forward for the end.
+-- Both spans: one pass back for the start, one forward for the end.
 spanFrom-same : (e f : ℕ → Option ℕ) (o : Option ℕ) → ((i : ℕ) → o ≡ some i → e i ≡ f i) → spanFrom e o ≡ spanFrom f o
 spanFrom-same e f none h = refl
 spanFrom-same e f (some i) h = rw (h i refl)

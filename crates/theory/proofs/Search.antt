@@ -72,7 +72,7 @@ module _ {S : Type 0} (stand : List ℕ → S) (carries : (u v : List ℕ) (b : 
         go j b (inl g) = ≺-snoc (at L j) (at L q) b c (up j q g h)
         go j b (inr g) = rw (g .0) (≺-last (at L q) b c (g .1))
 
-  -- THE LINES FOUND STAND IN THEIR ORDER.
+  -- The lines found stand in their order.
   pub increasing : {L : List (List ℕ)} {q c : ℕ} → Trace stand n L q c → (j k : ℕ) → j < k → k < length L → at L j ≺ at L k
   increasing begin j k i l = absurd (omega arith)
   increasing (known t h g m o e) j k i l = increasing t j k i l
@@ -83,7 +83,7 @@ module _ {S : Type 0} (stand : List ℕ → S) (carries : (u v : List ℕ) (b : 
       k l i
   increasing (turn t h) j k i l = increasing t j k i l
 
-  -- THEIR STANDINGS ARE DISTINCT.
+  -- Their standings are distinct.
   pub distinct : {L : List (List ℕ)} {q c : ℕ} → Trace stand n L q c → (j k : ℕ) → j < k → k < length L → stand (at L j) ≢ stand (at L k)
   distinct begin j k i l = absurd (omega arith)
   distinct (known t h g m o e) j k i l = distinct t j k i l
@@ -125,7 +125,7 @@ module _ {S : Type 0} (stand : List ℕ → S) (carries : (u v : List ℕ) (b : 
       go (inl f) = elim (decLt j q) [ yes c ↦ inl c | no c ↦ inr (omega arith) ]
       go (inr f) = absurd (omega arith)
 
-  -- EACH LINE BEFORE THE ONE TRIED NEXT IS COVERED.
+  -- Each line before the one tried next is covered.
   pub covered : {L : List (List ℕ)} {q c : ℕ} → Trace stand n L q c → q < length L → {v : List ℕ} → Bytes n v → v ≺ at L q ++ (c ∷ []) → Covered L v
   covered {L} {q} {c} t h nil o = (0, trace-size t .0, ap stand (trace-zero t), inl (trace-zero t))
   covered {L} {q} {c} t h (snoc {u = u} {b = b} m g) o =

@@ -190,7 +190,7 @@ step r d w b =
     (afters-same-end r b (wanted l) (setOf r (wanted l)) (setOf-above r (wanted l) leaves) (setOf-below r (wanted l))) in
     λ i. record { order = o i; first = f i; all = a i; some = s i }
 
--- (a) AND (b) FROM (a) ALONE, (c) AND (d) FROM (c) ALONE.
+-- (a) and (b) from (a) alone, (c) and (d) from (c) alone.
 module _ (r : Re) (s t : Standing) (b : ℕ) where
   pub next-greedy : s .order ≡ t .order → (next r s b .order ≡ next r t b .order) × (next r s b .first ≡ next r t b .first)
   unfolding next

@@ -55,7 +55,7 @@ read-answer t v (refused n q) = whole (refuse n q) t v
 unfoldable pub found : List ℕ → List ℕ → List ℕ → Whole
 found p t v = read-answer t v (read p)
 
--- IT IS RIGHT,
+-- It is right,
 pub found-right : (p t v : List ℕ) → Found p t v (result (found p t v)) (table (found p t v)) (witness (found p t v))
 unfolding found
 found-right p t v = go (read p) (read-right p)
@@ -75,7 +75,7 @@ found-right p t v = go (read p) (read-right p)
     go (refused n q) h = not-read h refl refl refl
     go (accepted a) h = outcome h (check (writeOut a) (writeOut-numbered a) (slots (length t))) _ refl
 
--- AND NOTHING ELSE IS.
+-- And nothing else is.
 pub found-only : {p t v : List ℕ} {x : Result} {t′ v′ : List ℕ} → Found p t v x t′ v′ → found p t v ≡ whole x t′ v′
 unfolding found
 found-only {p} {t} {v} {x} {t′} {v′} c = go c

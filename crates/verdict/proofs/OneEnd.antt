@@ -70,7 +70,7 @@ module _ (r : Re) (d : Numbered 0 r) where
         sym (snoc-last L w) ∙ ap (λ x. at x (length L)) whole ∙ ap (at (M ++ (u ∷ []))) e ∙ snoc-last M u,
       )
 
-  -- TWO OUTCOMES SHOW THE SAME.
+  -- Two outcomes show the same.
   pub same-outcome : {n : ℕ} (x y : SearchEnd r n) → show x ≡ show y
   same-outcome (alike L h a) (alike M g b) =
       let i = longest (a .records) (a .complete) (b .records) in

@@ -157,7 +157,7 @@ pack-six (suc n) m l y =
     ∙ pack-four (plus3 n m) (getD l 0 0) (getD l 1 0) (getD l 2 0) (getD l 3 0) (sixBits (four n) (drop 4 l) ++ y)
     ∙ ap (λ x. (getD l 0 0 % 64 * 4 + getD l 1 0 / 16 % 4) ∷ (getD l 1 0 % 16 * 16 + getD l 2 0 / 4 % 16) ∷ (getD l 2 0 % 4 * 64 + getD l 3 0 % 64) ∷ x) (pack-six n m (drop 4 l) y)
 
--- THE 64 BYTES.
+-- The 64 bytes.
 number-bit : (n : ℕ) (c : Bool) → fromBits n (bit c) ≡ 2 * n + one c
 number-bit n true = refl
 number-bit n false = refl

@@ -52,7 +52,7 @@ computed : Row → Row
 computed (cuts p w g s) = cutRow p w (read p)
 computed (checks p n m x u w) = checkRow p n m (read p)
 
--- IT HOLDS if it is that.
+-- It holds if it is that.
 spread : List ℕ → List ℕ → Row → Whole
 spread t v (cuts p w g s) = whole (refuse 0 0) [] []
 spread t v (checks p n m x u w) = whole x (onto t u) (onto v w)

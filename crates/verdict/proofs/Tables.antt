@@ -143,7 +143,7 @@ last-snoc [] b = refl
 last-snoc (a ∷ []) b = refl
 last-snoc (a ∷ c ∷ u) b = last-snoc (c ∷ u) b
 
--- THE RECORDS OF MORE LINES are those of fewer, and then the new line's.
+-- The records of more lines are those of fewer, and then the new line's.
 recordsOf-append : (r : Re) (L M N : List (List ℕ)) → recordsOf r L (M ++ N) ≡ recordsOf r L M ++ recordsOf r L N
 unfolding recordsOf
 recordsOf-append r L [] N = refl
@@ -210,7 +210,7 @@ onto-more t u x h =
     ap (λ n. (u ++ x) ++ drop n t) (length-append u x)
     ∙ sym (sets-eq x (onto t u) (length u) (omega arith) ∙ ap₂ (λ a b. (a ++ x) ++ b) front back)
 
--- SLOT k HOLDS RECORD k.
+-- Slot k holds record k.
 slot-of : (r : Re) (L M : List (List ℕ)) (y : List ℕ) (k : ℕ) → k < length M → take 64 (drop (64 * k) (recordsOf r L M ++ y)) ≡ recordOf r L (at M k)
 unfolding recordsOf
 slot-of r L [] y k l = absurd (omega arith)
