@@ -1,6 +1,6 @@
 // Standard input by lines, and standard output by a buffer. Lines may have any length and hold any bytes but the newline; input and output go by chunks, so
 // memory stays the same. A program turns between two steps: it answers the lines that end in the chunk, which `next_line` finds, and exchanges what waits for
-// the next chunk. Only `exchange` reads and writes.
+// the next chunk. Only `exchange` reads, and it writes first; `write_out` and `tell` only write.
 ghost use mathlib.Core.Path.{_≡_};
 ghost use mathlib.Core.Bool.{false};
 ghost use mathlib.Core.List.{List, []};
