@@ -3,7 +3,11 @@
 use mathlib.Core.Path.{_≡_, refl, sym, ap, _∙_}
 use mathlib.Core.Bool.{Bool, true, false, true≢false}
 use mathlib.Core.List.{List, [], _∷_, _++_, append-nil}
-use Prim.Native.Nat.{ℕ, _≤_, _<_}
+use Prim.Native.Nat.{ℕ, _≤_, _<_, min}
+use lib.IntN.{ℤ, pos, negsuc}
+use lib.Signed.{ltZ}
+use borrow.Author.Tests.{ltb-true}
+use Rattle.io.specs.Counts.{clamped}
 use lib.ListN.{length, take, set}
 use lib.Seq.{take-suc-set, take-take}
 use native.Mathlib.Omega.{arith}
@@ -11,13 +15,27 @@ use Rattle.lines.specs.declared.Source.{Source}
 use Rattle.lines.specs.declared.Source.the-variants.{Open, Over, Unread, Unwritten}
 use Rattle.lines.specs.declared.State.{State}
 use Rattle.lines.specs.Lines.{upTo, ended, past, kept, rest, begun, goesOn, Line, here, later, NextLine, FirstLine}
-use Rattle.lines.specs.Exchange.{Written, done, failed, ReadMore, more, over, unread, Exchanged, unwritten, closed, waits, read, movedTo, finished, Finished}
+use Rattle.lines.specs.Exchange.{Written, done, failed, lacking, Took, ReadMore, more, over, unread, Exchanged, unwritten, closed, waits, read, movedTo, finished, Finished}
 use Rattle.lines.specs.Steps.{isOpen, wantsLine}
 use Rattle.lines.proofs.Laws.{not-ended}
 
 -- A newline at the start of the chunk.
 pub newline-first : (chunk : List ℕ) → 0 < length chunk → take 1 (set chunk 0 10) ≡ 10 ∷ []
 newline-first chunk h = take-suc-set chunk 0 10 h
+
+-- What a read answers: a failure below 0, bytes, or the end at 0.
+module _ {s r : State} {chunk : List ℕ} where
+  pub took-unread : (got : ℤ) → ltZ got (pos 0) ≡ true → r ≡ movedTo s 0 0 Unread → Took s got chunk r
+  took-unread (pos k) e f = absurd (let h = ltb-true k 0 e in omega arith)
+  took-unread (negsuc k) e f = unread refl f
+
+  pub took-more : (got : ℤ) (e n : ℕ) → e ≡ clamped got n → n ≡ 65536 → 0 < e → r ≡ movedTo s 0 e Open → Took s got chunk r
+  took-more (pos k) e n c d h f = more refl (omega arith) (f ∙ ap (λ i. movedTo s 0 i Open) (c ∙ ap (λ i. min k i) d))
+  took-more (negsuc k) e n c d h f = absurd (omega arith)
+
+  pub took-over : (got : ℤ) (e n : ℕ) {k : ℕ} → ltZ got (pos 0) ≡ false → e ≡ clamped got n → n ≡ 65536 → e ≡ 0 → take k chunk ≡ lacking s → r ≡ movedTo s 0 k Over → Took s got chunk r
+  took-over (pos j) e n l c d z t f = let y : j ≡ 0 = omega arith in over (ap pos y) t f
+  took-over (negsuc j) e n l c d z t f = absurd (true≢false l)
 
 open-is : (x : Source) → isOpen x ≡ true → x ≡ Open
 open-is Open e = refl
@@ -45,9 +63,9 @@ pub same-line : {chunk chunk′ : List ℕ} {s r : State} → Exchanged chunk s 
 same-line (unwritten f e) = (ap (λ x. x .n) e, ap (λ x. x .whole) e)
 same-line (closed o f e) = (ap (λ x. x .n) e, ap (λ x. x .whole) e)
 same-line (waits h f e) = (ap (λ x. x .n) e, ap (λ x. x .whole) e)
-same-line (read o h (more a b e)) = (ap (λ x. x .n) e, ap (λ x. x .whole) e)
-same-line (read o h (over a e)) = (ap (λ x. x .n) e, ap (λ x. x .whole) e)
-same-line (read o h (unread e)) = (ap (λ x. x .n) e, ap (λ x. x .whole) e)
+same-line (read o h (g, more a b e)) = (ap (λ x. x .n) e, ap (λ x. x .whole) e)
+same-line (read o h (g, over a b e)) = (ap (λ x. x .n) e, ap (λ x. x .whole) e)
+same-line (read o h (g, unread a e)) = (ap (λ x. x .n) e, ap (λ x. x .whole) e)
 
 -- The first line is whole; or what is kept of it is its beginning, and nothing is left of the chunk.
 pub record Sought (chunk line : List ℕ) (s : State) : Type 0 where
@@ -99,9 +117,9 @@ pub nothing-waits : {chunk chunk′ : List ℕ} {s r : State} → Exchanged chun
 nothing-waits (unwritten f e) = ap (λ x. x .used) e
 nothing-waits (closed o f e) = ap (λ x. x .used) e
 nothing-waits (waits h f e) = ap (λ x. x .used) e
-nothing-waits (read o h (more a b e)) = ap (λ x. x .used) e
-nothing-waits (read o h (over a e)) = ap (λ x. x .used) e
-nothing-waits (read o h (unread e)) = ap (λ x. x .used) e
+nothing-waits (read o h (g, more a b e)) = ap (λ x. x .used) e
+nothing-waits (read o h (g, over a b e)) = ap (λ x. x .used) e
+nothing-waits (read o h (g, unread a e)) = ap (λ x. x .used) e
 
 pub nothing-written : {s r : State} → Written s r → r .used ≡ 0
 nothing-written (done e) = ap (λ x. x .used) e

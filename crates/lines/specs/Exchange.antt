@@ -3,8 +3,9 @@
 use mathlib.Core.Path.{_≡_}
 use mathlib.Core.Bool.{Bool, false, cond}
 use mathlib.Core.List.{List, [], _∷_}
-use Prim.Native.Nat.{ℕ, _≤_, _<_}
+use Prim.Native.Nat.{ℕ, _≤_, _<_, min}
 use lib.Dec.{ltb}
+use lib.IntN.{ℤ, pos, negsuc}
 use lib.ListN.{take}
 use Rattle.lines.specs.declared.Source.{Source}
 use Rattle.lines.specs.declared.Source.the-variants.{Open, Over, Unread, Unwritten}
@@ -32,11 +33,15 @@ hasBegun s = cond (s .whole) false (ltb 0 (s .n))
 abbrev pub lacking : State → List ℕ
 lacking s = cond (hasBegun s) (10 ∷ []) []
 
--- A read: bytes, the end of the input, or a failure, after which nothing is left to be read.
-pub data ReadMore (s : State) (chunk : List ℕ) (r : State) : Type 0 where
-  more : {k : ℕ} → 0 < k → k ≤ 65536 → r ≡ movedTo s 0 k Open → ReadMore s chunk r
-  over : {k : ℕ} → take k chunk ≡ lacking s → r ≡ movedTo s 0 k Over → ReadMore s chunk r
-  unread : r ≡ movedTo s 0 0 Unread → ReadMore s chunk r
+-- What a read that answers so leaves: so many bytes, at 0 the end of the input, and below 0 a failure, after which nothing is left to be read.
+pub data Took (s : State) (got : ℤ) (chunk : List ℕ) (r : State) : Type 0 where
+  more : {k : ℕ} → got ≡ pos k → 0 < k → r ≡ movedTo s 0 (min k 65536) Open → Took s got chunk r
+  over : {k : ℕ} → got ≡ pos 0 → take k chunk ≡ lacking s → r ≡ movedTo s 0 k Over → Took s got chunk r
+  unread : {k : ℕ} → got ≡ negsuc k → r ≡ movedTo s 0 0 Unread → Took s got chunk r
+
+-- A read, whatever it answers.
+abbrev pub ReadMore : State → List ℕ → State → Type 0
+ReadMore s chunk r = (got : ℤ) × Took s got chunk r
 
 -- What waits is written, or cannot be. There is a read only if the source is open and the chunk is read to its end.
 pub data Exchanged (chunk : List ℕ) (s : State) (chunk′ : List ℕ) (r : State) : Type 0 where

@@ -9,7 +9,7 @@ ghost use lib.Dec.{leb};
 ghost use lib.ListN.{length, take};
 ghost use Rattle.lines.specs.declared.Source.the-variants.{Open};
 ghost use Rattle.lines.specs.Lines.{NextLine, goesOn, FirstLine};
-ghost use Rattle.lines.specs.Exchange.{Written, movedTo, hasBegun, Exchanged, ReadMore, finished, faultLine};
+ghost use Rattle.lines.specs.Exchange.{Written, movedTo, hasBegun, Exchanged, Took, ReadMore, finished, faultLine};
 ghost use Rattle.lines.specs.Steps.{Kept, KeptNow, isOpen, wantsLine};
 use libc::STDERR_FILENO;
 use libc::STDIN_FILENO;
@@ -150,11 +150,10 @@ fn has_begun(state: State) -> bool
     state.n > 0
 }
 
-// The next chunk, or a read that fails, or the end of the input: then a line that has begun gets the newline that it lacks.
-fn read_more(chunk: &mut [u8; SIZE], state: State) -> State
-    ensures { λ r. ⌜ ReadMore state (now (chunk .exit)) r ⌝ }
+// What a read that answers `got` leaves: so many bytes, a failure below 0, and at 0 the end of the input, where a line that has begun gets the newline that it lacks.
+fn took(chunk: &mut [u8; SIZE], state: State, got: isize) -> State
+    ensures { λ r. ⌜ Took state got (now (chunk .exit)) r ⌝ }
 {
-    let got = libc::read(STDIN_FILENO, &mut chunk[..]);
     if got < 0 {
         return moved(state, 0, 0, Source::Unread);
     }
@@ -167,6 +166,14 @@ fn read_more(chunk: &mut [u8; SIZE], state: State) -> State
         return moved(state, 0, 1, Source::Over);
     }
     moved(state, 0, 0, Source::Over)
+}
+
+// Reads once.
+fn read_more(chunk: &mut [u8; SIZE], state: State) -> State
+    ensures { λ r. ⌜ ReadMore state (now (chunk .exit)) r ⌝ }
+{
+    let got = libc::read(STDIN_FILENO, &mut chunk[..]);
+    took(chunk, state, got)
 }
 
 fn is_open(source: Source) -> bool

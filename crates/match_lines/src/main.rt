@@ -47,8 +47,7 @@ fn serve(
 ) -> State
     ensures { λ r. ⌜ r .used ≡ 0 ⌝ }
 {
-    let pattern = lines::first_of(line, first.n);
-    let answer = readings::prepare(pattern, masks, rows, lens, sets, ends);
+    let answer = orders::prepare(line, first, masks, rows, lens, sets, ends);
     let Answer::Refused { number, place } = answer else {
         return run(chunk, line, out, masks, rows, lens, sets, ends, first);
     };

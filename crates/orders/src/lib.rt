@@ -1,17 +1,38 @@
 // What the second program prints for order lines: both spans, 'none' or a refusal (paper 01, "The programs").
 ghost use Rattle.lines.specs.Answers.{Served};
+ghost use lib.ListN.{take};
 ghost use Rattle.standing.specs.Stands.{arrays};
+ghost use Rattle.readings.specs.Tables.{Prepared};
 ghost use Rattle.orders.specs.Orders.{Answered, OrdersServed};
 use lines::KEPT;
 use lines::SIZE;
 use lines::State;
 use matchers::Spans;
+use reader::Answer;
 
 // "9, a line above 1,024 bytes".
 pub const MAX_BYTES: usize = 1024;
 
 // No printed line is longer: 'greedy', two numbers, 'posix' and two numbers, each of at most 20 digits.
 const LONGEST: usize = 97;
+
+// Prepares the pattern on the line that is read.
+pub fn prepare(
+    line: &[u8; KEPT],
+    state: State,
+    masks: &mut [u64; 256],
+    rows: &mut [u8; 4225],
+    lens: &mut [u8; 65],
+    sets: &mut [u64; 65],
+    ends: &mut [u8; 65],
+) -> Answer
+    ensures prepared { λ r. ⌜ Prepared (take (state .n) (now (line .entry)))
+        (arrays (now (masks .entry)) (now (rows .entry)) (now (lens .entry)) (now (sets .entry)) (now (ends .entry))) r
+        (arrays (now (masks .exit)) (now (rows .exit)) (now (lens .exit)) (now (sets .exit)) (now (ends .exit))) ⌝ }
+{
+    let pattern = lines::first_of(line, state.n);
+    readings::prepare(pattern, masks, rows, lens, sets, ends)
+}
 
 // Appends the answer to an order line, by the tables of the pattern.
 pub fn answer<'a>(
