@@ -1,7 +1,7 @@
 -- The laws of the standings' code.
 mod Fronts
-mod Outcomes
 mod Right
 -- For the layers above.
+pub mod Outcomes
 pub mod Sets
 pub mod Lent

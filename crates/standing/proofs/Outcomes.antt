@@ -23,7 +23,7 @@ use Rattle.theory.proofs.Closure.{closure-right, closureAfter-right, up, up-app
 use Rattle.standing.specs.Reads.{leaves}
 
 -- Every wanted leaf is a leaf of the pattern.
-abbrev Leaves : Re → List Next → Type 0
+abbrev pub Leaves : Re → List Next → Type 0
 Leaves r l = AllOut (λ _. Unit {0}) (Leaf r) l
 
 start-all : (r : Re) → Leaves r (start r)
@@ -34,7 +34,7 @@ start-all (seq x y) = all-replace (λ k u. all-map (λ _ v. v) (λ q l. Leaf.seq
 start-all (alt x y) = all-append (all-map (λ _ v. v) (λ q l. Leaf.alt-left l) (start-all x)) (all-map (λ _ v. v) (λ q l. Leaf.alt-right l) (start-all y))
 start-all (star x) = all-thenLeave tt (all-replace (λ k u. all-emptyTurn k tt) (λ q l. wish (Leaf.under l) none) (start-all x)) tt
 
-follow-all : (r : Re) (p : ℕ) → Leaves r (follow r p)
+pub follow-all : (r : Re) (p : ℕ) → Leaves r (follow r p)
 unfolding follow
 follow-all empty p = none
 follow-all (leaf q s) p = all-when (eqb p q) (λ t. end tt none)

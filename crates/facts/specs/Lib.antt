@@ -1,0 +1,4 @@
+-- Sets of leaves as numbers, and the facts of a pattern.
+pub mod Sets
+pub mod Known
+pub mod Moves
