@@ -1,0 +1,2 @@
+-- The POSIX end that leaves lead to, and the greedy end.
+pub mod Ends
