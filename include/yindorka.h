@@ -15,8 +15,8 @@
 #include <stdint.h>
 
 /* The version of this header: 10,000 times the first number, 100 times the second, and the third. */
-#define YINDORKA_VERSION "1.0.0"
-#define YINDORKA_VERSION_NUMBER 10000
+#define YINDORKA_VERSION "1.0.1"
+#define YINDORKA_VERSION_NUMBER 10001
 
 #ifdef __cplusplus
 extern "C" {
@@ -25,14 +25,21 @@ extern "C" {
 /* The version of the library that is linked; it fits this header if it is YINDORKA_VERSION_NUMBER. */
 uint32_t yindorka_version(void);
 
-/* The tables of an accepted pattern: filled by yindorka_prepare, read by yindorka_cut. They hold no pointer and may be copied. */
+/* The tables of an accepted pattern: filled by yindorka_prepare, read by yindorka_cut. They hold no pointer and may be copied.
+ * next and hows are facts that follow from the others, worked out once for all lines: what the first leaves want after each byte and the leaves after which an end
+ * stands; and how the bytes that begin or end a match are looked for. */
 typedef struct {
     uint64_t masks[256];
     uint8_t rows[4225];
     uint8_t lens[65];
     uint64_t sets[65];
     uint8_t ends[65];
+    uint64_t next[257];
+    uint8_t hows[10];
 } yindorka_tables;
+
+/* Their size in bytes, padding included. */
+#define YINDORKA_TABLES_SIZE 9008
 
 /* number 0: accepted. Else the pattern is refused with that number (1 to 8) at that place, a byte offset. */
 typedef struct {
@@ -51,9 +58,9 @@ typedef struct {
 
 /* The functions as the library has them. yindorka_read and yindorka_spans below are easier to call. */
 yindorka_refusal yindorka_prepare(const uint8_t *pattern, size_t pattern_length, uint64_t masks[256], uint8_t rows[4225], uint8_t lens[65], uint64_t sets[65],
-                                  uint8_t ends[65]);
+                                  uint8_t ends[65], uint64_t next[257], uint8_t hows[10]);
 size_t yindorka_cut(const uint8_t *line, size_t line_length, const uint64_t masks[256], const uint8_t rows[4225], const uint8_t lens[65], const uint64_t sets[65],
-                    const uint8_t ends[65], size_t spans[3]);
+                    const uint8_t ends[65], const uint64_t next[257], const uint8_t hows[10], size_t spans[3]);
 
 /* Decides whether a greedy and a POSIX reading of the pattern can ever cut a line differently.
  * Writes: the table, whose slots are its length divided by 64, at most 65,535: the records found, from its start on, the rest kept; the witness buffer, only for
@@ -64,14 +71,14 @@ yindorka_outcome yindorka_check(const uint8_t *pattern, size_t pattern_length, u
 /* Reads a pattern and fills its tables, which then serve any number of lines. A refused pattern leaves them as they are. */
 static inline yindorka_refusal yindorka_read(const uint8_t *pattern, size_t length, yindorka_tables *t)
 {
-    return yindorka_prepare(pattern, length, t->masks, t->rows, t->lens, t->sets, t->ends);
+    return yindorka_prepare(pattern, length, t->masks, t->rows, t->lens, t->sets, t->ends, t->next, t->hows);
 }
 
 /* Both spans of a line of any length, by the tables of an accepted pattern: 1, with the start of both in spans[0], the greedy end in spans[1] and the POSIX end in
  * spans[2]; or 0, and spans kept, if no part of the line matches. Linear in the line. */
 static inline int yindorka_spans(const uint8_t *line, size_t length, const yindorka_tables *t, size_t spans[3])
 {
-    return (int)yindorka_cut(line, length, t->masks, t->rows, t->lens, t->sets, t->ends, spans);
+    return (int)yindorka_cut(line, length, t->masks, t->rows, t->lens, t->sets, t->ends, t->next, t->hows, spans);
 }
 
 #ifdef __cplusplus

@@ -6,7 +6,7 @@ use std::os::unix::ffi::OsStringExt;
 use std::process::exit;
 
 // The library's version, structs and functions, as include/yindorka.h has them.
-const VERSION: u32 = 10000;
+const VERSION: u32 = 10001;
 
 #[repr(C)]
 struct Refusal {
@@ -31,6 +31,8 @@ extern "C" {
         lens: *mut u8,
         sets: *mut u64,
         ends: *mut u8,
+        next: *mut u64,
+        hows: *mut u8,
     ) -> Refusal;
     fn yindorka_cut(
         line: *const u8,
@@ -40,6 +42,8 @@ extern "C" {
         lens: *const u8,
         sets: *const u64,
         ends: *const u8,
+        next: *const u64,
+        hows: *const u8,
         spans: *mut usize,
     ) -> usize;
     fn yindorka_check(
@@ -59,6 +63,8 @@ struct Pattern {
     lens: [u8; 65],
     sets: [u64; 65],
     ends: [u8; 65],
+    next: [u64; 257],
+    hows: [u8; 10],
 }
 
 enum Verdict {
@@ -75,6 +81,8 @@ impl Pattern {
             lens: [0; 65],
             sets: [0; 65],
             ends: [0; 65],
+            next: [0; 257],
+            hows: [0; 10],
         };
         // Safe: each pointer is to as many elements as the library's signature has, and the slice's pointer is never null.
         let r = unsafe {
@@ -86,6 +94,8 @@ impl Pattern {
                 p.lens.as_mut_ptr(),
                 p.sets.as_mut_ptr(),
                 p.ends.as_mut_ptr(),
+                p.next.as_mut_ptr(),
+                p.hows.as_mut_ptr(),
             )
         };
         if r.number == 0 {
@@ -108,6 +118,8 @@ impl Pattern {
                 self.lens.as_ptr(),
                 self.sets.as_ptr(),
                 self.ends.as_ptr(),
+                self.next.as_ptr(),
+                self.hows.as_ptr(),
                 spans.as_mut_ptr(),
             )
         };

@@ -18,6 +18,8 @@ fn run<'a>(
     lens: &'a [u8; 65],
     sets: &'a [u64; 65],
     ends: &'a [u8; 65],
+    next: &'a [u64; 257],
+    hows: &'a [u8; 10],
     first: State,
 ) -> State
     ensures { λ r. ⌜ Finished r ⌝ }
@@ -26,7 +28,19 @@ fn run<'a>(
     s.used = 0;
     let mut turns = u64::MAX;
     while turns > 0 && lines::goes_on(s) {
-        s = orders::answer_lines(chunk, line, out, masks, rows, lens, sets, ends, s);
+        s = orders::answer_lines(
+            chunk,
+            line,
+            out,
+            masks,
+            rows,
+            lens,
+            sets,
+            ends,
+            next,
+            hows,
+            s,
+        );
         s = lines::exchange(chunk, out, s);
         turns -= 1;
     }
@@ -43,13 +57,27 @@ fn serve(
     lens: &mut [u8; 65],
     sets: &mut [u64; 65],
     ends: &mut [u8; 65],
+    next: &mut [u64; 257],
+    hows: &mut [u8; 10],
     first: State,
 ) -> State
     ensures { λ r. ⌜ r .used ≡ 0 ⌝ }
 {
-    let answer = orders::prepare(line, first, masks, rows, lens, sets, ends);
+    let answer = orders::prepare(line, first, masks, rows, lens, sets, ends, next, hows);
     let Answer::Refused { number, place } = answer else {
-        return run(chunk, line, out, masks, rows, lens, sets, ends, first);
+        return run(
+            chunk,
+            line,
+            out,
+            masks,
+            rows,
+            lens,
+            sets,
+            ends,
+            next,
+            hows,
+            first,
+        );
     };
     let mut s = first;
     s.used = printing::refused(out, 0, number, place);
@@ -65,6 +93,8 @@ fn main() {
     let mut lens = [0u8; 65];
     let mut sets = [0u64; 65];
     let mut ends = [0u8; 65];
+    let mut next = [0u64; 257];
+    let mut hows = [0u8; 10];
     let mut s = lines::first_line(&mut chunk, &mut line, &out);
     if s.whole {
         s = serve(
@@ -76,6 +106,8 @@ fn main() {
             &mut lens,
             &mut sets,
             &mut ends,
+            &mut next,
+            &mut hows,
             s,
         );
     }

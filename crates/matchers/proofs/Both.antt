@@ -1,63 +1,68 @@
--- The spans of a line from what both passes find.
+-- Both spans of a line from the POSIX span and the greedy end.
 -- Assumes nothing.
-use mathlib.Core.Path.{_≡_, sym, ap, _∙_}
-use mathlib.Core.Bool.{Bool}
-use mathlib.Core.List.{List}
+use mathlib.Core.Path.{_≡_, refl, sym, ap, _∙_}
+use mathlib.Core.Bool.{Bool, true, false, cond}
+use mathlib.Core.List.{List, [], _∷_}
 use mathlib.Core.Option.{Option, none, some}
-use Prim.Native.Nat.{ℕ, _<_}
-use lib.ListN.{getD, drop}
+use Prim.Native.Nat.{ℕ, zero, suc, _≤_, _<_, min}
+use native.Mathlib.Omega.{arith}
+use native.Mathlib.Decide.{decLt}
+use lib.ListN.{length, getD, take, drop}
+use lib.Dec.{eqb}
+use borrow.Author.Tests.{eq-eqb, ne-eqb}
 use Rattle.theory.specs.Pattern.{Re}
-use Rattle.theory.specs.Spans.{Span, spanOr, nowhere, greedy, posix}
-use Rattle.theory.specs.Standing.{Standing}
-use Rattle.theory.specs.Code.Passes.{farthest, leftmostStart, spanFrom}
-use Rattle.theory.proofs.Lines.{below-each}
-use Rattle.theory.proofs.Passes.{greedy-passes, posix-passes}
+use Rattle.theory.specs.Spans.{Span, nowhere, span, spanOr, greedy, posix}
+use Rattle.theory.specs.Code.Passes.{farthest}
 use Rattle.theory.proofs.Demand.{both-none}
-use Rattle.standing.specs.Stands.{Arrays, arrays}
-use Rattle.matchers.specs.declared.Place.{Place}
-use Rattle.matchers.specs.declared.Ends.{Ends}
-use Rattle.matchers.specs.declared.Spans.the-variants.{Nowhere}
+use Rattle.facts.specs.Moves.{Bytes}
+use Rattle.blocks.proofs.Greedy.{greedy-upto}
+use Rattle.ends.specs.declared.End.{End}
+use Rattle.ends.specs.Ends.{placeOf, Ended}
+use Rattle.starts.specs.declared.Best.{Best}
+use Rattle.starts.specs.Spans.{spanOf, Found}
+use Rattle.matchers.specs.Tables.{Tables}
+use Rattle.matchers.specs.declared.Spans.the-variants.{Nowhere, Located}
 use Rattle.matchers.specs.Cuts.{Cut, Cuts}
-use Rattle.matchers.specs.Passes.{placeOf, spansFrom, Leftmost, Ended}
 
--- A span g that the ends e give at the leftmost start o.
-module _ (e : ℕ → Option ℕ) (o : Option ℕ) (g : Span) (passes : g ≡ spanFrom e o) where
-  span-none : o ≡ none → nowhere ≡ g
-  span-none h = sym (passes ∙ ap (spanFrom e) h)
+-- The line up to the POSIX end.
+take-all : (n : ℕ) (w : List ℕ) → length w ≤ n → take n w ≡ w
+take-all zero [] h = refl
+take-all zero (b ∷ w) h = absurd (omega arith)
+take-all (suc n) [] h = refl
+take-all (suc n) (b ∷ w) h = ap (λ l. b ∷ l) (take-all n w (omega arith))
 
-  span-some : (i : ℕ) (p : Option ℕ) → o ≡ some i → p ≡ e i → spanOr i p nowhere ≡ g
-  span-some i p h last = ap (λ q. spanOr i q nowhere) last ∙ sym (passes ∙ ap (spanFrom e) h)
+take-least : (n j : ℕ) (w : List ℕ) → n ≡ min j (length w) → take n w ≡ take j w
+take-least n j w e = elim (decLt j (length w)) [ yes h ↦ (let same : n ≡ j = omega arith in rw same) | no h ↦ take-all n w (omega arith) ∙ sym (take-all j w (omega arith)) ]
 
--- Both ends are there, or neither is.
-both-ends : (r : Re) (w : List ℕ) (i : ℕ) (g p : Option ℕ) → spanOr i g nowhere ≡ greedy r w → spanOr i p nowhere ≡ posix r w → Cut r w (spansFrom i g p)
-both-ends r w i none p e f = record { greedily = e; longest = sym (both-none r w .0 (sym e)) }
-both-ends r w i (some j) none e f = record { greedily = sym (both-none r w .1 (sym f)); longest = f }
-both-ends r w i (some j) (some k) e f = record { greedily = e; longest = f }
+bytes-take : (n : ℕ) (w : List ℕ) → Bytes w → Bytes (take n w)
+bytes-take zero w h k = omega arith
+bytes-take (suc n) [] h k = omega arith
+bytes-take (suc n) (b ∷ w) h zero = h 0
+bytes-take (suc n) (b ∷ w) h (suc k) = bytes-take n w (λ i. h (suc i)) k
 
--- The end from each place.
-abbrev endFrom : Re → List ℕ → (Standing → Bool) → ℕ → Option ℕ
-endFrom r w f i = farthest r f (drop i w) i
+no-span : {i j : ℕ} → span i j ≡ nowhere → ⊥
+no-span e = let z : _≡_ {A = ℕ} 0 1 = cc in omega arith
 
--- A line of bytes, as a slice of them is, and what the pass back finds in it.
-module _ (a : Arrays) {w : List ℕ} (bytes : (i : ℕ) → getD w i 0 < 256) (s : Place) (left : Leftmost (a .masks) (a .sets) (a .ends) w s) where
-  -- Without a start,
-  pub cut-none : placeOf s ≡ none → Cuts a w Nowhere
-  cut-none at = record {
-    cut = λ {r} lent.
-        let start : leftmostStart r w ≡ none = sym (left r (a .rows) (a .lens) lent (below-each 256 w bytes)) ∙ at in
-        record {
-          greedily = span-none (endFrom r w (λ s. s .first)) (leftmostStart r w) (greedy r w) (greedy-passes r (lent .numbered) w) start;
-          longest = span-none (endFrom r w (λ s. s .some)) (leftmostStart r w) (posix r w) (posix-passes r (lent .numbered) w) start;
-        };
+module _ {t : Tables} {w : List ℕ} (bytes : Bytes w) {b : Best} (found : Found (t .arrays .masks) (t .arrays .sets) (t .arrays .ends) (t .facts) w b) where
+  pub cut-none : (b .some ≡ 1 → ⊥) → Cuts t w Nowhere
+  cut-none n = record {
+    cut = λ {r} own.
+        let p : nowhere ≡ posix r w = ap (λ c. cond c (span (b .start) (b .end)) nowhere) (sym (ne-eqb (b .some) 1 n)) ∙ found .posix-is (own .lent) (own .known) bytes in
+        record { greedily = sym (both-none r w .1 (sym p)); longest = p };
   }
 
-  -- and from the start i.
-  pub cut-some : (i : ℕ) (e : Ends) → placeOf s ≡ some i → Ended a w i e → Cuts a w (spansFrom i (placeOf (e .greedy)) (placeOf (e .posix)))
-  cut-some i e at ended = record {
-    cut = λ {r} lent.
-        let start : leftmostStart r w ≡ some i = sym (left r (a .rows) (a .lens) lent (below-each 256 w bytes)) ∙ at in
-        let last = ended .last lent (below-each 256 w bytes) in
-        both-ends r w i (placeOf (e .greedy)) (placeOf (e .posix))
-        (span-some (endFrom r w (λ s. s .first)) (leftmostStart r w) (greedy r w) (greedy-passes r (lent .numbered) w) i _ start (last .greedily))
-        (span-some (endFrom r w (λ s. s .some)) (leftmostStart r w) (posix r w) (posix-passes r (lent .numbered) w) i _ start (last .longest));
+  -- The greedy end is there if the POSIX end is.
+  pub cut-some : {n : ℕ} {e : End} → b .some ≡ 1 → n ≡ min (b .end) (length w) → Ended (t .arrays) (take n w) (b .start) e → Cuts t w (Located (b .start) (e .at) (b .end))
+  cut-some {n} {e} y least ended = record {
+    cut = λ {r} own.
+        let p : span (b .start) (b .end) ≡ posix r w = ap (λ c. cond c (span (b .start) (b .end)) nowhere) (sym (eq-eqb (b .some) 1 y)) ∙ found .posix-is (own .lent) (own .known) bytes in
+        let g : greedy r w ≡ spanOr (b .start) (placeOf e) nowhere =
+        greedy-upto r (own .lent .numbered) w (b .start) (b .end) (sym p)
+        ∙ ap (λ l. spanOr (b .start) (farthest r (λ s. s .first) (drop (b .start) l) (b .start)) nowhere) (sym (take-least n (b .end) w least))
+        ∙ ap (λ o. spanOr (b .start) o nowhere) (sym (ended .last (own .lent) (bytes-take n w bytes))) in
+        record { greedily = go r p (eqb (e .some) 1) g; longest = p };
   }
+    where
+      go : (r : Re) → span (b .start) (b .end) ≡ posix r w → (c : Bool) → greedy r w ≡ spanOr (b .start) (cond c (some (e .at)) none) nowhere → span (b .start) (e .at) ≡ greedy r w
+      go r p true g = sym g
+      go r p false g = absurd (no-span (p ∙ both-none r w .0 g))

@@ -5,7 +5,7 @@ use Prim.Native.Nat.{ℕ}
 use mathlib.Core.List.{List}
 use Rattle.theory.specs.Pattern.{Re}
 use Rattle.theory.specs.Spans.{Span, nowhere, span, greedy, posix}
-use Rattle.standing.specs.Stands.{Arrays, Lent}
+use Rattle.matchers.specs.Tables.{Tables, Ready}
 use Rattle.matchers.specs.declared.Spans.{Spans}
 use Rattle.matchers.specs.declared.Spans.the-variants.{Nowhere, Located}
 
@@ -23,6 +23,6 @@ pub record Cut (r : Re) (w : List ℕ) (s : Spans) : Type 0 where
   pub greedily : greedyOf s ≡ greedy r w
   pub longest : posixOf s ≡ posix r w
 
--- The same for the pattern whose arrays are lent.
-pub record Cuts (a : Arrays) (w : List ℕ) (s : Spans) : Type 0 where
-  pub cut : {r : Re} → Lent r a → Cut r w s
+-- The same for the pattern whose tables are lent.
+pub record Cuts (t : Tables) (w : List ℕ) (s : Spans) : Type 0 where
+  pub cut : {r : Re} → Ready r t → Cut r w s

@@ -1,4 +1,3 @@
--- The two spans of a line, as the code has them.
+-- What is lent for lines, and both spans of a line.
+pub mod Tables
 pub mod Cuts
--- The two passes of the code.
-pub mod Passes

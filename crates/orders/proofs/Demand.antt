@@ -16,7 +16,7 @@ use Rattle.grammar.specs.Limits.{Reads}
 use Rattle.grammar.specs.WriteOut.{writeOut}
 use Rattle.grammar.proofs.Right.{unambiguous, not-both}
 use Rattle.reader.specs.declared.Answer.{Answer}
-use Rattle.standing.specs.Stands.{Arrays, Lent}
+use Rattle.matchers.specs.Tables.{Tables, Ready}
 use Rattle.readings.specs.Tables.{Prepared, ready, refused}
 use Rattle.printing.specs.Text.{Printed, RefusedLine, SpansLine, noneLine}
 use Rattle.lines.specs.declared.State.{State}
@@ -53,12 +53,12 @@ order-kept r l w =
     first h (uncut i g p is) = absurd (omega arith)
 
 -- The tables that a pattern of the grammar is prepared with are its own,
-module _ {p : List ℕ} (a : Alternation) (reads : Reads p a) {old new : Arrays} {x : Answer} (prepared : Prepared p old x new) where
-  own-tables : Lent (writeOut a) new
+module _ {p : List ℕ} (a : Alternation) (reads : Reads p a) {old new : Tables} {x : Answer} (prepared : Prepared p old x new) where
+  own-tables : Ready (writeOut a) new
   own-tables = go prepared
     where
-      go : Prepared p old x new → Lent (writeOut a) new
-      go (ready {a = b} e h t) = subst (λ c. Lent (writeOut c) new) (unambiguous p b a h reads) t
+      go : Prepared p old x new → Ready (writeOut a) new
+      go (ready {a = b} e h t) = subst (λ c. Ready (writeOut c) new) (unambiguous p b a h reads) t
       go (refused {n = n} {k = k} e f q) = absurd (not-both p a n k reads f)
 
   -- THE ANSWER TO AN ORDER LINE IS THE PATTERN'S, whatever the line: nothing is left to be asked of the tables.

@@ -1,7 +1,7 @@
 // What the second program prints for order lines: both spans, 'none' or a refusal (paper 01, "The programs").
 ghost use Rattle.lines.specs.Answers.{Served};
 ghost use lib.ListN.{take};
-ghost use Rattle.standing.specs.Stands.{arrays};
+ghost use Rattle.matchers.specs.Tables.{tables};
 ghost use Rattle.readings.specs.Tables.{Prepared};
 ghost use Rattle.orders.specs.Orders.{Answered, OrdersServed};
 use lines::KEPT;
@@ -25,13 +25,15 @@ pub fn prepare(
     lens: &mut [u8; 65],
     sets: &mut [u64; 65],
     ends: &mut [u8; 65],
+    next: &mut [u64; 257],
+    hows: &mut [u8; 10],
 ) -> Answer
     ensures prepared { λ r. ⌜ Prepared (take (state .n) (now (line .entry)))
-        (arrays (now (masks .entry)) (now (rows .entry)) (now (lens .entry)) (now (sets .entry)) (now (ends .entry))) r
-        (arrays (now (masks .exit)) (now (rows .exit)) (now (lens .exit)) (now (sets .exit)) (now (ends .exit))) ⌝ }
+        (tables (now (masks .entry)) (now (rows .entry)) (now (lens .entry)) (now (sets .entry)) (now (ends .entry)) (now (next .entry)) (now (hows .entry))) r
+        (tables (now (masks .exit)) (now (rows .exit)) (now (lens .exit)) (now (sets .exit)) (now (ends .exit)) (now (next .exit)) (now (hows .exit))) ⌝ }
 {
     let pattern = lines::first_of(line, state.n);
-    readings::prepare(pattern, masks, rows, lens, sets, ends)
+    readings::prepare(pattern, masks, rows, lens, sets, ends, next, hows)
 }
 
 // Appends the answer to an order line, by the tables of the pattern.
@@ -44,14 +46,16 @@ pub fn answer<'a>(
     lens: &'a [u8; 65],
     sets: &'a [u64; 65],
     ends: &'a [u8; 65],
+    next: &'a [u64; 257],
+    hows: &'a [u8; 10],
 ) -> usize
-    ensures answered { λ r. ⌜ Answered (arrays (now (masks .entry)) (now (rows .entry)) (now (lens .entry)) (now (sets .entry)) (now (ends .entry)))
+    ensures answered { λ r. ⌜ Answered (tables (now (masks .entry)) (now (rows .entry)) (now (lens .entry)) (now (sets .entry)) (now (ends .entry)) (now (next .entry)) (now (hows .entry)))
         (now (line .entry)) (now (out .entry)) n (now (out .exit)) r ⌝ }
 {
     if line.len() > MAX_BYTES {
         return printing::refused(out, n, 9, 0);
     }
-    let spans = matchers::cut(line, masks, rows, lens, sets, ends);
+    let spans = matchers::cut(line, masks, rows, lens, sets, ends, next, hows);
     let Spans::Located {
         start,
         greedy,
@@ -73,9 +77,11 @@ pub fn answer_lines<'a>(
     lens: &'a [u8; 65],
     sets: &'a [u64; 65],
     ends: &'a [u8; 65],
+    next: &'a [u64; 257],
+    hows: &'a [u8; 10],
     state: State,
 ) -> State
-    ensures served { λ r. ⌜ OrdersServed (arrays (now (masks .entry)) (now (rows .entry)) (now (lens .entry)) (now (sets .entry)) (now (ends .entry)))
+    ensures served { λ r. ⌜ OrdersServed (tables (now (masks .entry)) (now (rows .entry)) (now (lens .entry)) (now (sets .entry)) (now (ends .entry)) (now (next .entry)) (now (hows .entry)))
         (now (chunk .entry)) (now (line .entry)) (now (out .entry)) state (now (line .exit)) (now (out .exit)) r ⌝ }
 {
     let mut s = state;
@@ -83,7 +89,18 @@ pub fn answer_lines<'a>(
         s = lines::next_line(chunk, line, s);
         if s.whole {
             let order = lines::first_of(line, s.n);
-            s.used = answer(out, s.used, order, masks, rows, lens, sets, ends);
+            s.used = answer(
+                out,
+                s.used,
+                order,
+                masks,
+                rows,
+                lens,
+                sets,
+                ends,
+                next,
+                hows,
+            );
         }
     }
     s

@@ -7,11 +7,11 @@ use Rattle.grammar.specs.Grammar.{Alternation}
 use Rattle.grammar.specs.Limits.{Reads}
 use Rattle.grammar.specs.Refusals.{Fault}
 use Rattle.grammar.specs.WriteOut.{writeOut}
-use Rattle.standing.specs.Stands.{Arrays, Lent}
+use Rattle.matchers.specs.Tables.{Tables, Ready}
 use Rattle.reader.specs.declared.Answer.{Answer}
 use Rattle.reader.specs.declared.Answer.the-variants.{Accepted, Refused}
 
 -- The pattern is accepted, and the tables are its own; or it is refused, and they are kept.
-pub data Prepared (p : List ℕ) (old : Arrays) (x : Answer) (new : Arrays) : Type 0 where
-  ready : {a : Alternation} → x ≡ Accepted → Reads p a → Lent (writeOut a) new → Prepared p old x new
+pub data Prepared (p : List ℕ) (old : Tables) (x : Answer) (new : Tables) : Type 0 where
+  ready : {a : Alternation} → x ≡ Accepted → Reads p a → Ready (writeOut a) new → Prepared p old x new
   refused : {n k : ℕ} → x ≡ Refused n k → Fault p n k → new ≡ old → Prepared p old x new

@@ -1,5 +1,5 @@
 // Both readings of a line, from the pattern's bytes. For many lines with one pattern: `prepare` once, then `matchers::cut` for each.
-ghost use Rattle.standing.specs.Stands.{arrays};
+ghost use Rattle.matchers.specs.Tables.{tables};
 ghost use Rattle.readings.specs.Replies.{CutBy, Replied};
 ghost use Rattle.readings.specs.Tables.{Prepared};
 use arrays::Pattern;
@@ -22,7 +22,10 @@ fn spans_by(pattern: Pattern, line: &[u8]) -> Spans
     let lens = tables.lens;
     let sets = tables.sets;
     let ends = tables.ends;
-    matchers::cut(line, &masks, &rows, &lens, &sets, &ends)
+    let facts = facts::facts_of(&masks, &sets, &ends);
+    let next = facts.next;
+    let hows = facts.hows;
+    matchers::cut(line, &masks, &rows, &lens, &sets, &ends, &next, &hows)
 }
 
 // Reads a pattern, and cuts a line by it both ways. A refused pattern goes no further than the reader.
@@ -52,10 +55,12 @@ pub fn prepare(
     lens: &mut [u8; 65],
     sets: &mut [u64; 65],
     ends: &mut [u8; 65],
+    next: &mut [u64; 257],
+    hows: &mut [u8; 10],
 ) -> Answer
     ensures prepared { λ r. ⌜ Prepared (now (pattern .entry))
-        (arrays (now (masks .entry)) (now (rows .entry)) (now (lens .entry)) (now (sets .entry)) (now (ends .entry))) r
-        (arrays (now (masks .exit)) (now (rows .exit)) (now (lens .exit)) (now (sets .exit)) (now (ends .exit))) ⌝ }
+        (tables (now (masks .entry)) (now (rows .entry)) (now (lens .entry)) (now (sets .entry)) (now (ends .entry)) (now (next .entry)) (now (hows .entry))) r
+        (tables (now (masks .exit)) (now (rows .exit)) (now (lens .exit)) (now (sets .exit)) (now (ends .exit)) (now (next .exit)) (now (hows .exit))) ⌝ }
 {
     let reading = reader::read(pattern);
     let answer = reading.answer;
@@ -69,10 +74,15 @@ pub fn prepare(
     let own_lens = tables.lens;
     let own_sets = tables.sets;
     let own_ends = tables.ends;
+    let facts = facts::facts_of(&own_masks, &own_sets, &own_ends);
+    let own_next = facts.next;
+    let own_hows = facts.hows;
     *masks = own_masks;
     *rows = own_rows;
     *lens = own_lens;
     *sets = own_sets;
     *ends = own_ends;
+    *next = own_next;
+    *hows = own_hows;
     answer
 }

@@ -3,14 +3,14 @@
 use mathlib.Core.Path.{_≡_, sym, ap, _∙_}
 use Prim.Native.Nat.{ℕ}
 use mathlib.Core.List.{List, [], _∷_}
-use Rattle.standing.specs.Stands.{Arrays}
+use Rattle.matchers.specs.Tables.{Tables}
 use Rattle.matchers.specs.declared.Spans.{Spans}
 use Rattle.matchers.specs.declared.Spans.the-variants.{Nowhere, Located}
 use Rattle.matchers.specs.Cuts.{greedyOf, posixOf}
 use Rattle.matchers.specs.Cuts as Matchers
 use Rattle.yindorka.specs.Calls.{located, none, Cuts}
 
-module _ {t : Arrays} {w : List ℕ} {s : Spans} (cut : Matchers.Cuts t w s) {old : List ℕ} where
+module _ {t : Tables} {w : List ℕ} {s : Spans} (cut : Matchers.Cuts t w s) {old : List ℕ} where
   -- No span,
   pub cuts-none : s ≡ Nowhere → Cuts t w old 0 old
   cuts-none e = record {

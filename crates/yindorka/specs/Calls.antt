@@ -5,7 +5,7 @@ use Prim.Native.Nat.{ℕ}
 use mathlib.Core.List.{List, [], _∷_}
 use Rattle.theory.specs.Pattern.{Re}
 use Rattle.theory.specs.Spans.{nowhere, span, greedy, posix}
-use Rattle.standing.specs.Stands.{Arrays, Lent}
+use Rattle.matchers.specs.Tables.{Tables, Ready}
 use Rattle.reader.specs.declared.Answer.{Answer}
 use Rattle.reader.specs.declared.Answer.the-variants.{Accepted, Refused}
 use Rattle.readings.specs.Tables.{Prepared}
@@ -22,7 +22,7 @@ refusalOf Accepted = record { number = 0; place = 0 }
 refusalOf (Refused n k) = record { number = n; place = k }
 
 -- The tables are an accepted pattern's own, or they are kept.
-pub record Prepares (p : List ℕ) (old : Arrays) (r : Refusal) (new : Arrays) : Type 0 where
+pub record Prepares (p : List ℕ) (old : Tables) (r : Refusal) (new : Tables) : Type 0 where
   pub answer : Answer
   pub prepared : Prepared p old answer new
   pub means : r ≡ refusalOf answer
@@ -33,8 +33,8 @@ pub data CutTo (r : Re) (w old : List ℕ) : ℕ → List ℕ → Type 0 where
   none : greedy r w ≡ nowhere → posix r w ≡ nowhere → CutTo r w old 0 old
 
 -- For the pattern of which the tables are.
-pub record Cuts (t : Arrays) (w old : List ℕ) (x : ℕ) (new : List ℕ) : Type 0 where
-  pub cut : {r : Re} → Lent r t → CutTo r w old x new
+pub record Cuts (t : Tables) (w old : List ℕ) (x : ℕ) (new : List ℕ) : Type 0 where
+  pub cut : {r : Re} → Ready r t → CutTo r w old x new
 
 -- Kind 0: alike with the record count. 1: unlike with the count and the witness's length. 2: refused with number and place.
 abbrev pub outcomeOf : Verdict → Outcome

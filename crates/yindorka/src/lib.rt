@@ -1,6 +1,6 @@
 // The library for other languages: a pattern's tables, both spans of a line by them, and the checker. No function keeps a state, allocates or fails: a pattern that is no pattern is refused.
 ghost use mathlib.Core.Path.{_≡_};
-ghost use Rattle.standing.specs.Stands.{arrays};
+ghost use Rattle.matchers.specs.Tables.{tables};
 ghost use Rattle.yindorka.specs.Calls.{refusalOf, Prepares, Cuts, Decided, outcomeOf};
 use checker::Verdict;
 use matchers::Spans;
@@ -45,12 +45,14 @@ pub extern "C" fn yindorka_prepare(
     lens: &mut [u8; 65],
     sets: &mut [u64; 65],
     ends: &mut [u8; 65],
+    next: &mut [u64; 257],
+    hows: &mut [u8; 10],
 ) -> Refusal
     ensures prepared { λ r. ⌜ Prepares (now (pattern .entry))
-        (arrays (now (masks .entry)) (now (rows .entry)) (now (lens .entry)) (now (sets .entry)) (now (ends .entry))) r
-        (arrays (now (masks .exit)) (now (rows .exit)) (now (lens .exit)) (now (sets .exit)) (now (ends .exit))) ⌝ }
+        (tables (now (masks .entry)) (now (rows .entry)) (now (lens .entry)) (now (sets .entry)) (now (ends .entry)) (now (next .entry)) (now (hows .entry))) r
+        (tables (now (masks .exit)) (now (rows .exit)) (now (lens .exit)) (now (sets .exit)) (now (ends .exit)) (now (next .exit)) (now (hows .exit))) ⌝ }
 {
-    refusal_of(readings::prepare(pattern, masks, rows, lens, sets, ends))
+    refusal_of(readings::prepare(pattern, masks, rows, lens, sets, ends, next, hows))
 }
 
 // Both spans of a line of any length: 1 and the start, the greedy end and the POSIX end, or 0.
@@ -62,12 +64,14 @@ pub extern "C" fn yindorka_cut<'a>(
     lens: &'a [u8; 65],
     sets: &'a [u64; 65],
     ends: &'a [u8; 65],
+    next: &'a [u64; 257],
+    hows: &'a [u8; 10],
     spans: &mut [usize; 3],
 ) -> usize
-    ensures cuts { λ r. ⌜ Cuts (arrays (now (masks .entry)) (now (rows .entry)) (now (lens .entry)) (now (sets .entry)) (now (ends .entry)))
+    ensures cuts { λ r. ⌜ Cuts (tables (now (masks .entry)) (now (rows .entry)) (now (lens .entry)) (now (sets .entry)) (now (ends .entry)) (now (next .entry)) (now (hows .entry)))
         (now (line .entry)) (now (spans .entry)) r (now (spans .exit)) ⌝ }
 {
-    let both = matchers::cut(line, masks, rows, lens, sets, ends);
+    let both = matchers::cut(line, masks, rows, lens, sets, ends, next, hows);
     let Spans::Located {
         start,
         greedy,
@@ -110,10 +114,10 @@ pub extern "C" fn yindorka_check(pattern: &[u8], table: &mut [u8], witness: &mut
     numbers_of(checker::check(pattern, table, witness))
 }
 
-// The version of the library: 10000 is 1.0.0.
+// The version of the library: 10001 is 1.0.1.
 #[no_mangle]
 pub extern "C" fn yindorka_version() -> u32
-    ensures version { λ r. ⌜ r ≡ 10000 ⌝ }
+    ensures version { λ r. ⌜ r ≡ 10001 ⌝ }
 {
-    10000
+    10001
 }

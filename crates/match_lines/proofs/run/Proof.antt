@@ -7,10 +7,10 @@ use Rattle.match_lines.proofs.run.Statement.{statement}
 use Rattle.match_lines.proofs.run.Tie as tie
 
 abbrev Inv-loop : tie.InvT-loop
-Inv-loop chunk₀ line₀ out₀ masks rows lens sets ends s₀ turns₀ chunk line out s turns = s .used ≡ 0
+Inv-loop chunk₀ line₀ out₀ masks rows lens sets ends next hows s₀ turns₀ chunk line out s turns = s .used ≡ 0
 
 abbrev μ-loop : tie.MeasureT-loop
-μ-loop chunk₀ line₀ out₀ masks rows lens sets ends s₀ turns₀ chunk line out s turns = turns
+μ-loop chunk₀ line₀ out₀ masks rows lens sets ends next hows s₀ turns₀ chunk line out s turns = turns
 
 loop-holds : tie.Need-loop-holds Inv-loop μ-loop
 loop-holds c = refl

@@ -6,17 +6,17 @@ use native.Mathlib.Omega.{arith}
 use borrow.Author.Needs.{needs}
 use borrow.Author.Tests.{leb-true, leb-false}
 use Prim.Native.Nat.{_+_, _-_}
-use Rattle.standing.specs.Stands.{arrays}
+use Rattle.matchers.specs.Tables.{tables}
 use Rattle.lines.proofs.Serving.{at-its-end}
 use Rattle.orders.proofs.Ordering.{OrdersServing, orders-first, orders-next, orders-part, orders-served}
 use Rattle.orders.proofs.answer_lines.Statement.{statement}
 use Rattle.orders.proofs.answer_lines.Tie as tie
 
 abbrev Inv-loop : tie.InvT-loop
-Inv-loop chunk line₀ out₀ masks rows lens sets ends s₀ line out s = OrdersServing (arrays masks rows lens sets ends) chunk line₀ out₀ s₀ line out s
+Inv-loop chunk line₀ out₀ masks rows lens sets ends next hows s₀ line out s = OrdersServing (tables masks rows lens sets ends next hows) chunk line₀ out₀ s₀ line out s
 
 abbrev μ-loop : tie.MeasureT-loop
-μ-loop chunk line₀ out₀ masks rows lens sets ends s₀ line out s = s .end - s .at
+μ-loop chunk line₀ out₀ masks rows lens sets ends next hows s₀ line out s = s .end - s .at
 
 loop-holds : tie.Need-loop-holds Inv-loop μ-loop
 loop-holds c = orders-first

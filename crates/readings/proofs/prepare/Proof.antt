@@ -10,9 +10,18 @@ returns c = prepared-refused (c .before .before .read .ensures) (c .enum-told2 .
 
 returns-2 : tie.Need-returns-2
 returns-2 c =
-    let t = c .before .before .before .before in
-    prepared-ready (t .before .before .before .before .before .read .ensures) (t .before .before .before .enum-told .given .1) (t .tables-of .ensures)
+    let f = c .before .before in
+    let t = f .before .before .before .before .before .before .before .before in
+    prepared-ready (t .before .before .before .before .before .read .ensures) (t .before .before .before .enum-told .given .1) (t .tables-of .ensures) (f .facts-of .ensures)
 
 pub prepare-spec : {M : Type 1} → statement M
 prepare-spec =
-    tie.close (tie.spec (λ c κs. search needs) (λ c. search needs) (λ c. search needs) returns (λ c κs. search needs) returns-2)
+    tie.close
+    (tie.spec
+    (λ c κs. search needs)
+    (λ c. search needs)
+    (λ c. search needs)
+    returns
+    (λ c κs. search needs)
+    (λ c κs. search needs)
+    returns-2)
