@@ -29,7 +29,6 @@ pub mod Denotation
 pub mod Examples
 -- Demand 2 in its words.
 pub mod Demand
--- For code: closures without duplicates, one pass back and one forward.
+-- For code: closures without duplicates, the pass forward from a start.
 pub mod Closure
-pub mod Head
 pub mod Passes

@@ -1,4 +1,4 @@
--- Both spans by one pass back, for the start, and one forward, for the end.
+-- The ends from a known start by one pass forward.
 -- Assumes nothing.
 use mathlib.Core.Path.{_≡_, refl, sym, ap, ap₂, _∙_}
 use Prim.Native.Nat.{ℕ, zero, suc, _+_, _≤_}
@@ -8,18 +8,17 @@ use mathlib.Core.Option.{Option, none, some, Option·map}
 use native.Mathlib.Omega.{arith}
 use native.Mathlib.Nat.{add-suc, add-zero}
 use lib.ListN.{length, drop, length-append}
-use Rattle.theory.specs.Pattern.{Re, Numbered, count}
+use Rattle.theory.specs.Pattern.{Re, Numbered}
 use Rattle.theory.specs.Outcomes.{Outcome, endsAt, wants, outcomes}
 use Rattle.theory.specs.Code.Follow.{Next, start, hasEnd}
-use Rattle.theory.specs.Standing.{Standing, standing, once, fronts, setOf, wanted, filter, from}
+use Rattle.theory.specs.Standing.{Standing, standing, once, fronts}
 use Rattle.theory.specs.Code.Next.{next, afters}
-use Rattle.theory.specs.Spans.{firstEnd, greatestEnd, larger, greedy, posix}
-use Rattle.theory.specs.Code.Passes.{forward, farthest, leftmostStart, spanFrom}
+use Rattle.theory.specs.Spans.{firstEnd, greatestEnd, larger}
+use Rattle.theory.specs.Code.Passes.{forward, farthest}
 use Rattle.theory.proofs.Extend.{place, outcomes-end}
 use Rattle.theory.proofs.Step.{step, step-start}
 use Rattle.theory.proofs.Ends.{first-moves, greatest-moves}
 use Rattle.theory.proofs.Cut.{shift, from-place, shift-first, shift-greatest}
-use Rattle.theory.proofs.Head.{greedy-from, posix-from, leftmost-some}
 
 -- At the line's end.
 first-place : (n : ℕ) (l : List Next) → firstEnd (place n l) ≡ cond (hasEnd l) (some n) none
@@ -102,33 +101,3 @@ module _ (r : Re) (d : Numbered 0 r) where
   greedy-stop (b ∷ rest) s i o e =
       greedy-stop rest (next r s b) (suc i) (cond (next r s b .first) (some (suc i)) o) (ap (λ l. once (fronts (afters r b l))) e)
       ∙ ap (λ l. cond (hasEnd (afters r b l)) (some (suc i)) o) e
-
-  none-set : setOf r [] ≡ []
-  none-set = go 0 (count r)
-    where
-      go : (n d : ℕ) → filter (λ p. false) (from n d) ≡ []
-      go n zero = refl
-      go n (suc d) = go (suc n) d
-
-  pub posix-stop : (rest : List ℕ) (s : Standing) (i : ℕ) (o : Option ℕ) → s .all ≡ [] → forward r (λ s. s .some) rest s i o ≡ o
-  unfolding forward next
-  posix-stop [] s i o e = refl
-  posix-stop (b ∷ rest) s i o e =
-      posix-stop rest (next r s b) (suc i) (cond (next r s b .some) (some (suc i)) o) (ap (λ l. setOf r (wanted (afters r b l))) e ∙ none-set)
-      ∙ ap (λ l. cond (hasEnd (afters r b l)) (some (suc i)) o) e
-
--- Both spans: one pass back for the start, one forward for the end.
-spanFrom-same : (e f : ℕ → Option ℕ) (o : Option ℕ) → ((i : ℕ) → o ≡ some i → e i ≡ f i) → spanFrom e o ≡ spanFrom f o
-spanFrom-same e f none h = refl
-spanFrom-same e f (some i) h = rw (h i refl)
-
-module _ (r : Re) (d : Numbered 0 r) (w : List ℕ) where
-  pub greedy-passes : greedy r w ≡ spanFrom (λ i. farthest r (λ s. s .first) (drop i w) i) (leftmostStart r w)
-  greedy-passes =
-      greedy-from r d w
-      ∙ spanFrom-same (λ i. firstEnd (outcomes r w i)) (λ i. farthest r (λ s. s .first) (drop i w) i) (leftmostStart r w) (λ i e. greedy-end r d w i (leftmost-some r d w i e .0))
-
-  pub posix-passes : posix r w ≡ spanFrom (λ i. farthest r (λ s. s .some) (drop i w) i) (leftmostStart r w)
-  posix-passes =
-      posix-from r d w
-      ∙ spanFrom-same (λ i. greatestEnd (outcomes r w i)) (λ i. farthest r (λ s. s .some) (drop i w) i) (leftmostStart r w) (λ i e. posix-end r d w i (leftmost-some r d w i e .0))
