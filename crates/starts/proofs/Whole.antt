@@ -36,6 +36,19 @@ at-some e k h = go (eqb (e .some) 1) h
     go true h = cc
     go false h = absurd (let z : _≡_ {A = ℕ} 0 1 = cc in omega arith)
 
+-- A match that begins at the place itself.
+pub searched-here : {masks sets next w : List ℕ} {from : ℕ} {e : End} → Last masks sets w (getD next 256 0) from (getD sets 0 0) (record { some = 0; at = 0 }) e → e .some ≡ 1
+    → Searched masks sets next w from (record { some = 1; start = from; end = e .at })
+searched-here {sets = sets} {w = w} {from = i} {e = e} last s = record {
+  finds = λ {r} moves nexts bytes.
+      begins r (decLt i (length w))
+      (ap (λ l. lastEnd r l (drop i w) i) (sym (moves .first)) ∙ sym (last .last moves bytes ∙ or-none r (lastEnd r (leavesIn (count r) (getD sets 0 0)) (drop i w) i)) ∙ ap (λ c. cond c (some (e .at)) none) (eq-eqb (e .some) 1 s));
+}
+  where
+    begins : (r : Re) → Dec (i < length w) → lastEnd r (firsts r) (drop i w) i ≡ some (e .at) → later r (drop i w) i ≡ span i (e .at)
+    begins r (yes l) h = later-next r w i l ∙ ap (λ p. spanOr i p (later r (drop (suc i) w) (suc i))) h
+    begins r (no l) h = absurd (let z : _≡_ {A = Option ℕ} none (some (e .at)) = sym (last-over r w i (firsts r) (omega arith)) ∙ h in let n : _≡_ {A = ℕ} 0 1 = cc in omega arith)
+
 module _ {masks sets ends : List ℕ} {f : Lists} {w : List ℕ} where
   -- A PATTERN THAT MATCHES THE EMPTY LINE begins at the first place.
   pub found-empty : {e : End} → getD ends 0 0 ≡ 1 → Last masks sets w (endingIn f) 0 (getD sets 0 0) (record { some = 1; at = 0 }) e → Found masks sets ends f w (record { some = 1; start = 0; end = e .at })
@@ -55,29 +68,11 @@ module _ {masks sets ends : List ℕ} {f : Lists} {w : List ℕ} where
     whole : {r : Re} {rows lens : List ℕ} → Lent r (arrays masks rows lens sets ends) → Known masks sets ends f → Bytes w → laterFrom r w (placeOf o) ≡ posix r w
     whole {r} lent known bytes = open′ .opens (moves lent (known .endings)) (known .nexts) (known .begins) (known .closes) bytes ∙ posix-later r (lent .numbered) w (sym (empty-line lent) ∙ ne-eqb (getD ends 0 0) 1 two)
 
-    -- if there is one;
+    -- if there is none,
     pub found-none : (o .some ≡ 1 → ⊥) → Found masks sets ends f w (record { some = 0; start = 0; end = 0 })
     found-none n = record { posix-is = λ {r} lent known bytes. ap (λ c. laterFrom r w (cond c (some (o .at)) none)) (sym (ne-eqb (o .some) 1 n)) ∙ whole lent known bytes }
 
-    module _ (y : o .some ≡ 1) {e : End} (last : Last masks sets w (endingIn f) (o .at) (getD sets 0 0) (record { some = 0; at = 0 }) e) where
-      from-there : {r : Re} {rows lens : List ℕ} → Lent r (arrays masks rows lens sets ends) → Known masks sets ends f → Bytes w → later r (drop (o .at) w) (o .at) ≡ posix r w
-      from-there {r} lent known bytes = ap (λ c. laterFrom r w (cond c (some (o .at)) none)) (sym (eq-eqb (o .some) 1 y)) ∙ whole lent known bytes
-
-      -- where one begins,
-      pub found-here : e .some ≡ 1 → Found masks sets ends f w (record { some = 1; start = o .at; end = e .at })
-      found-here s = record {
-        posix-is = λ {r} lent known bytes.
-            let m = moves lent (known .endings) in
-            let place : lastEnd r (firsts r) (drop (o .at) w) (o .at) ≡ some (e .at) =
-            ap (λ l. lastEnd r l (drop (o .at) w) (o .at)) (sym (m .first)) ∙ sym (last .last m bytes ∙ or-none r (lastEnd r (leavesIn (count r) (getD sets 0 0)) (drop (o .at) w) (o .at))) ∙ ap (λ c. cond c (some (e .at)) none) (eq-eqb (e .some) 1 s) in
-            begins r place (decLt (o .at) (length w)) ∙ from-there lent known bytes;
-      }
-        where
-          begins : (r : Re) → lastEnd r (firsts r) (drop (o .at) w) (o .at) ≡ some (e .at) → Dec (o .at < length w) → span (o .at) (e .at) ≡ later r (drop (o .at) w) (o .at)
-          begins r h (yes l) = sym (later-next r w (o .at) l ∙ ap (λ p. spanOr (o .at) p (later r (drop (suc (o .at)) w) (suc (o .at)))) h)
-          begins r h (no l) = absurd (let z : _≡_ {A = Option ℕ} none (some (e .at)) = sym (last-over r w (o .at) (firsts r) (omega arith)) ∙ h in let n : _≡_ {A = ℕ} 0 1 = cc in omega arith)
-
-    -- or else by blocks.
+    -- and if there is.
     pub found-by : o .some ≡ 1 → {b : Best} → Searched masks sets (f .next) w (o .at) b → Found masks sets ends f w b
     found-by y searched = record {
       posix-is = λ {r} lent known bytes.

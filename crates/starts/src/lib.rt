@@ -21,6 +21,19 @@ pub struct Best {
     pub end: usize,
 }
 
+impl Best {
+    // No span.
+    fn nowhere() -> Best
+        ensures { λ r. ⌜ r ≡ record { some = 0; start = 0; end = 0 } ⌝ }
+    {
+        Best {
+            some: 0,
+            start: 0,
+            end: 0,
+        }
+    }
+}
+
 // The blocks that a byte has carried on so far: how many, and their leaves. Closed is 1 if a block got an end: it closes all later ones, and its span is the best.
 struct Carry {
     n: usize,
@@ -300,11 +313,29 @@ fn search<'a>(
         n = c.n;
         i = seeking::pass_if(still, line, i + 1, all, all & mask, masks);
     }
-    Best {
-        some: 0,
-        start: 0,
-        end: 0,
+    Best::nowhere()
+}
+
+// The same where mostly a match begins at the place itself: then no block is kept.
+fn span_from<'a>(
+    line: &'a [u8],
+    from: usize,
+    next: &'a [u64; 257],
+    masks: &'a [u64; 256],
+    sets: &'a [u64; 65],
+) -> Best
+    ensures { λ r. ⌜ Searched (now (masks .entry)) (now (sets .entry)) (now (next .entry)) (now (line .entry)) from r ⌝ }
+{
+    let none = End { some: 0, at: 0 };
+    let e = ends::last_end(line, from, sets[0], none, next[facts::ENDING], masks, sets);
+    if e.some == 1 {
+        return Best {
+            some: 1,
+            start: from,
+            end: e.at,
+        };
     }
+    search(line, from, next, masks, sets)
 }
 
 // How far the line may be read before a byte that can end a match is looked for again; 0 if there is none any more. Looked for are only few bytes: many are soon found.
@@ -410,53 +441,20 @@ pub fn posix_span<'a>(
 ) -> Best
     ensures found { λ r. ⌜ Found (now (masks .entry)) (now (sets .entry)) (now (ends .entry)) (facts (now (next .entry)) (now (hows .entry))) (now (line .entry)) r ⌝ }
 {
-    let ending = next[facts::ENDING];
     if ends[0] == 1 {
-        let e = ends::last_end(
-            line,
-            0,
-            sets[0],
-            End { some: 1, at: 0 },
-            ending,
-            masks,
-            sets,
-        );
+        let here = End { some: 1, at: 0 };
+        let e = ends::last_end(line, 0, sets[0], here, next[facts::ENDING], masks, sets);
         return Best {
             some: 1,
             start: 0,
             end: e.at,
         };
     }
-    let open = first_open(
-        line,
-        facts::begins(hows),
-        facts::closes(hows),
-        next,
-        masks,
-        sets,
-    );
+    let begins = facts::begins(hows);
+    let closes = facts::closes(hows);
+    let open = first_open(line, begins, closes, next, masks, sets);
     if open.some != 1 {
-        return Best {
-            some: 0,
-            start: 0,
-            end: 0,
-        };
+        return Best::nowhere();
     }
-    let e = ends::last_end(
-        line,
-        open.at,
-        sets[0],
-        End { some: 0, at: 0 },
-        ending,
-        masks,
-        sets,
-    );
-    if e.some == 1 {
-        return Best {
-            some: 1,
-            start: open.at,
-            end: e.at,
-        };
-    }
-    search(line, open.at, next, masks, sets)
+    span_from(line, open.at, next, masks, sets)
 }

@@ -42,7 +42,7 @@ loop-again c =
     (first, ending, search-turn inv (omega arith) (rw (e, ending) at (s .step .ensures)) (i .if1 .left) (u .before .is-still .ensures) (rw (e, u .union .ensures, first) at (c .pass-if .ensures)))
 
 returns-2 : tie.Need-returns-2 Inv-loop μ-loop
-returns-2 c = search-end (c .before .loop .inv .2) (omega arith)
+returns-2 c = rw (c .nowhere .ensures) (search-end (c .before .before .loop .inv .2) (omega arith))
 
 pub search-spec : {M : Type 1} → statement M
 search-spec =
@@ -74,4 +74,5 @@ search-spec =
     (λ c κs. search needs)
     loop-less
     loop-again
+    (λ c κs. search needs)
     returns-2)
