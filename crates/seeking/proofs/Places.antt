@@ -4,10 +4,10 @@ use mathlib.Core.Path.{_≡_}
 use mathlib.Core.List.{List}
 use Prim.Native.Nat.{ℕ, _+_, _≤_, _<_}
 use native.Mathlib.Omega.{arith}
-use native.Mathlib.Decide.{decLt}
+use native.Mathlib.Decide.{decLt, ℕ-discrete}
 use lib.ListN.{length, getD}
 use lib.Bits.{bitAnd, bitOr, or-add-and, and-le-l, and-le-r}
-use Rattle.seeking.specs.Places.{Kind, Lacks}
+use Rattle.seeking.specs.Places.{Kind, Lacks, Other}
 
 -- Of each byte from i to j the leaves `all` take just `kind`.
 pub record Alike (masks w : List ℕ) (all kind i j : ℕ) : Type 0 where
@@ -31,31 +31,40 @@ module _ {masks w : List ℕ} {all kind i j : ℕ} (s : Alike masks w all kind i
 pub or-zero : (x y : ℕ) → bitOr x y ≡ 0 → (x ≡ 0) × (y ≡ 0)
 or-zero x y e = let s = or-add-and x y in (omega (arith, s, and-le-r x y), omega (arith, s, and-le-l x y))
 
--- Of the chunk at i the first z bytes are looked at, and if `any` is 0 none of them is one of those that P says.
-pub record Chunk (P : ℕ → Type 0) (w : List ℕ) (i any z : ℕ) : Type 0 where
-  pub fits : i + 32 ≤ length w
-  pub most : z ≤ 32
+-- Of the n bytes at i the first z are looked at, and if `any` is 0 none of them is one of those that P says.
+pub record Chunk (P : ℕ → Type 0) (w : List ℕ) (n i any z : ℕ) : Type 0 where
+  pub fits : i + n ≤ length w
+  pub most : z ≤ n
   pub none : any ≡ 0 → Lacks P w i (i + z)
 
-module _ (P : ℕ → Type 0) (w : List ℕ) (i : ℕ) where
-  -- A chunk more, or any stretch.
-  pub lacks-both : (j r : ℕ) → Lacks P w i j → Lacks P w j r → Lacks P w i r
-  lacks-both j r s t = record { more = omega (arith, s .more, t .more); within = t .within; none = λ k g l. go k g l (decLt k j) }
-    where
-      go : (k : ℕ) → i ≤ k → k < r → Dec (k < j) → P (getD w k 0) → ⊥
-      go k g l (yes m) = s .none k g m
-      go k g l (no m) = t .none k (omega arith) l
+-- A chunk more, or any stretch.
+pub lacks-both : (P : ℕ → Type 0) (w : List ℕ) (i j r : ℕ) → Lacks P w i j → Lacks P w j r → Lacks P w i r
+lacks-both P w i j r s t = record { more = omega (arith, s .more, t .more); within = t .within; none = λ k g l. go k g l (decLt k j) }
+  where
+    go : (k : ℕ) → i ≤ k → k < r → Dec (k < j) → P (getD w k 0) → ⊥
+    go k g l (yes m) = s .none k g m
+    go k g l (no m) = t .none k (omega arith) l
 
+module _ (P : ℕ → Type 0) (w : List ℕ) (n i : ℕ) where
   -- One place of the chunk more, by a test that is 0 only if its byte is none of them.
-  pub chunk-more : (any z x : ℕ) → Chunk P w i any z → z < 32 → (x ≡ 0 → P (getD w (i + z) 0) → ⊥) → Chunk P w i (bitOr any x) (z + 1)
-  chunk-more any z x s h n = record {
+  pub chunk-more : (any z x : ℕ) → Chunk P w n i any z → z < n → (x ≡ 0 → P (getD w (i + z) 0) → ⊥) → Chunk P w n i (bitOr any x) (z + 1)
+  chunk-more any z x s h none = record {
     fits = s .fits;
     most = omega arith;
-    none = λ e. let u = or-zero any x e in lacks-both (i + z) (i + (z + 1)) (s .none (u .0)) (here (n (u .1)));
+    none = λ e. let u = or-zero any x e in lacks-both P w i (i + z) (i + (z + 1)) (s .none (u .0)) (here (none (u .1)));
   }
     where
       here : (P (getD w (i + z) 0) → ⊥) → Lacks P w (i + z) (i + (z + 1))
       here m = record { more = omega arith; within = omega (arith, s .fits); none = λ k g l. let e : k ≡ i + z = omega arith in rw e m }
 
-  pub chunk-all : (any z : ℕ) → Chunk P w i any z → 32 ≤ z → any ≡ 0 → Lacks P w i (i + 32)
-  chunk-all any z s h = let e : z ≡ 32 = omega (arith, s .most) in rw e at (s .none)
+  pub chunk-all : (any z : ℕ) → Chunk P w n i any z → n ≤ z → any ≡ 0 → Lacks P w i (i + n)
+  chunk-all any z s h = let e : z ≡ n = omega (arith, s .most) in rw e at (s .none)
+
+-- Bytes of the kind, then runs without one of another, then bytes of the kind again.
+pub run-kind : {masks w : List ℕ} {all kind i j k r : ℕ} → Alike masks w all kind i j → Lacks (Other masks all kind) w j k → Kind masks w all kind k r → Kind masks w all kind i r
+run-kind {masks} {w} {all} {kind} {i} {j} {k} {r} s t u = record { more = omega (arith, s .more, t .more, u .more); within = λ h. u .within (t .within); alike = λ m g l. go m g l (decLt m j) (decLt m k); other = u .other }
+  where
+    go : (m : ℕ) → i ≤ m → m < r → Dec (m < j) → Dec (m < k) → bitAnd all (getD masks (getD w m 0) 0) ≡ kind
+    go m g l (yes h) d = s .alike m g h
+    go m g l (no h) (no d) = u .alike m (omega arith) l
+    go m g l (no h) (yes d) = elim (ℕ-discrete (bitAnd all (getD masks (getD w m 0) 0)) kind) [ yes e ↦ e | no n ↦ absurd (t .none m (omega arith) d n) ]

@@ -31,6 +31,10 @@ pub record Lacks (P : ℕ → Type 0) (w : List ℕ) (i r : ℕ) : Type 0 where
 abbrev pub One : ℕ → ℕ → Type 0
 One a b = b ≡ a
 
+-- A byte of another kind.
+abbrev pub Other : List ℕ → ℕ → ℕ → ℕ → Type 0
+Other masks all kind b = bitAnd all (getD masks b 0) ≡ kind → ⊥
+
 abbrev pub Few : ℕ → ℕ → ℕ → ℕ → ℕ → Type 0
 Few low high other last b = few low high other last b ≡ true
 

@@ -5,7 +5,7 @@ ghost use mathlib.Core.Bool.{true, _&&_};
 ghost use Prim.Native.Nat.{_+_, _≤_, _<_};
 ghost use lib.ListN.{length};
 ghost use lib.Dec.{leb};
-ghost use Rattle.seeking.specs.Places.{Kind, Passed, Lacks, Sought, One, Few};
+ghost use Rattle.seeking.specs.Places.{Kind, Passed, Lacks, Sought, One, Few, Other};
 ghost use Rattle.seeking.specs.Hows.{among, Finds};
 
 // How the bytes that a set of leaves takes are looked for.
@@ -22,6 +22,9 @@ pub struct How {
 
 const CHUNK: usize = 32;
 
+// A run of bytes of one kind is passed over by so many.
+const RUN: usize = 16;
+
 const ONE: u8 = 1;
 
 const FEW: u8 = 2;
@@ -30,14 +33,8 @@ const FEW: u8 = 2;
 const RANGE: usize = 16;
 
 // The place after the bytes from `from` on of which the leaves `all` take just `kind`.
-pub fn kind_end<'a>(
-    line: &'a [u8],
-    from: usize,
-    all: u64,
-    kind: u64,
-    masks: &'a [u64; 256],
-) -> usize
-    ensures kind { λ r. ⌜ Kind (now (masks .entry)) (now (line .entry)) all kind from r ⌝ }
+fn kind_end<'a>(line: &'a [u8], from: usize, all: u64, kind: u64, masks: &'a [u64; 256]) -> usize
+    ensures { λ r. ⌜ Kind (now (masks .entry)) (now (line .entry)) all kind from r ⌝ }
 {
     let mut i = from;
     while i < line.len() {
@@ -47,6 +44,61 @@ pub fn kind_end<'a>(
         i += 1;
     }
     i
+}
+
+// 1 if the kinds differ.
+fn differ(x: u64, y: u64) -> u8
+    ensures { λ r. ⌜ (r ≡ 0 → x ≡ y) ⌝ }
+{
+    if x == y { 0 } else { 1 }
+}
+
+// 0 only if all bytes of the run at i are of the kind.
+fn any_other<'a>(line: &'a [u8], i: usize, all: u64, kind: u64, masks: &'a [u64; 256]) -> u8
+    requires { ⌜ i + 16 ≤ length (now line) ⌝ }
+    ensures { λ r. ⌜ (r ≡ 0 → Lacks (Other (now (masks .entry)) all kind) (now (line .entry)) i (i + 16)) ⌝ }
+{
+    let mut any = 0u8;
+    let mut z = 0;
+    while z < RUN {
+        any = any | differ(all & masks[words::wide(line[i + z])], kind);
+        z += 1;
+    }
+    any
+}
+
+// The first run of bytes from `from` on with one of another kind, or the places after the last whole run.
+fn skip_runs<'a>(line: &'a [u8], from: usize, all: u64, kind: u64, masks: &'a [u64; 256]) -> usize
+    requires { ⌜ from ≤ length (now line) ⌝ }
+    ensures { λ r. ⌜ Lacks (Other (now (masks .entry)) all kind) (now (line .entry)) from r ⌝ }
+{
+    let mut i = from;
+    while RUN <= line.len() - i {
+        if any_other(line, i, all, kind, masks) != 0 {
+            return i;
+        }
+        i += RUN;
+    }
+    i
+}
+
+// The same by runs of 16 where there are so many: byte by byte at first, since most are shorter.
+fn run_end<'a>(line: &'a [u8], from: usize, all: u64, kind: u64, masks: &'a [u64; 256]) -> usize
+    ensures { λ r. ⌜ Kind (now (masks .entry)) (now (line .entry)) all kind from r ⌝ }
+{
+    if line.len() <= from {
+        return from;
+    }
+    let near = from + words::least(RUN, line.len() - from);
+    let mut i = from;
+    while i < near {
+        if all & masks[words::wide(line[i])] != kind {
+            return i;
+        }
+        i += 1;
+    }
+    let far = skip_runs(line, i, all, kind, masks);
+    kind_end(line, far, all, kind, masks)
 }
 
 // The same place, or, if `is`, the place after the bytes from there on of which the leaves `all` take just `kind`.
@@ -61,7 +113,7 @@ pub fn pass_if<'a>(
     ensures passed { λ r. ⌜ Passed is (now (masks .entry)) (now (line .entry)) all kind from r ⌝ }
 {
     if is {
-        return kind_end(line, from, all, kind, masks);
+        return run_end(line, from, all, kind, masks);
     }
     from
 }

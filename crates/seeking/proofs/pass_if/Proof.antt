@@ -6,7 +6,7 @@ use Rattle.seeking.proofs.pass_if.Statement.{statement}
 use Rattle.seeking.proofs.pass_if.Tie as tie
 
 returns : tie.Need-returns
-returns c = let k = c .kind-end .ensures in record { more = k .more; within = k .within; alike = λ m h l. (c .before .if1 .taken, k .alike m h l) }
+returns c = let k = c .run-end .ensures in record { more = k .more; within = k .within; alike = λ m h l. (c .before .if1 .taken, k .alike m h l) }
 
 returns-2 : tie.Need-returns-2
 returns-2 c = record { more = omega arith; within = λ h. h; alike = λ m h l. absurd (omega arith) }
