@@ -60,11 +60,10 @@ module _ (P : ℕ → Type 0) (w : List ℕ) (n i : ℕ) where
   pub chunk-all : (any z : ℕ) → Chunk P w n i any z → n ≤ z → any ≡ 0 → Lacks P w i (i + n)
   chunk-all any z s h = let e : z ≡ n = omega (arith, s .most) in rw e at (s .none)
 
--- Bytes of the kind, then runs without one of another, then bytes of the kind again.
-pub run-kind : {masks w : List ℕ} {all kind i j k r : ℕ} → Alike masks w all kind i j → Lacks (Other masks all kind) w j k → Kind masks w all kind k r → Kind masks w all kind i r
-run-kind {masks} {w} {all} {kind} {i} {j} {k} {r} s t u = record { more = omega (arith, s .more, t .more, u .more); within = λ h. u .within (t .within); alike = λ m g l. go m g l (decLt m j) (decLt m k); other = u .other }
+-- Runs without a byte of another kind, then bytes of the kind.
+pub run-kind : {masks w : List ℕ} {all kind i j r : ℕ} → Lacks (Other masks all kind) w i j → Kind masks w all kind j r → Kind masks w all kind i r
+run-kind {masks} {w} {all} {kind} {i} {j} {r} s t = record { more = omega (arith, s .more, t .more); within = λ h. t .within (s .within); alike = λ k g l. go k g l (decLt k j); other = t .other }
   where
-    go : (m : ℕ) → i ≤ m → m < r → Dec (m < j) → Dec (m < k) → bitAnd all (getD masks (getD w m 0) 0) ≡ kind
-    go m g l (yes h) d = s .alike m g h
-    go m g l (no h) (no d) = u .alike m (omega arith) l
-    go m g l (no h) (yes d) = elim (ℕ-discrete (bitAnd all (getD masks (getD w m 0) 0)) kind) [ yes e ↦ e | no n ↦ absurd (t .none m (omega arith) d n) ]
+    go : (k : ℕ) → i ≤ k → k < r → Dec (k < j) → bitAnd all (getD masks (getD w k 0) 0) ≡ kind
+    go k g l (no h) = t .alike k (omega arith) l
+    go k g l (yes h) = elim (ℕ-discrete (bitAnd all (getD masks (getD w k 0) 0)) kind) [ yes e ↦ e | no n ↦ absurd (s .none k g h n) ]

@@ -23,7 +23,7 @@ pub struct How {
 const CHUNK: usize = 32;
 
 // A run of bytes of one kind is passed over by so many.
-const RUN: usize = 16;
+const RUN: usize = 8;
 
 const ONE: u8 = 1;
 
@@ -55,8 +55,8 @@ fn differ(x: u64, y: u64) -> u8
 
 // 0 only if all bytes of the run at i are of the kind.
 fn any_other<'a>(line: &'a [u8], i: usize, all: u64, kind: u64, masks: &'a [u64; 256]) -> u8
-    requires { ⌜ i + 16 ≤ length (now line) ⌝ }
-    ensures { λ r. ⌜ (r ≡ 0 → Lacks (Other (now (masks .entry)) all kind) (now (line .entry)) i (i + 16)) ⌝ }
+    requires { ⌜ i + 8 ≤ length (now line) ⌝ }
+    ensures { λ r. ⌜ (r ≡ 0 → Lacks (Other (now (masks .entry)) all kind) (now (line .entry)) i (i + 8)) ⌝ }
 {
     let mut any = 0u8;
     let mut z = 0;
@@ -82,22 +82,14 @@ fn skip_runs<'a>(line: &'a [u8], from: usize, all: u64, kind: u64, masks: &'a [u
     i
 }
 
-// The same by runs of 16 where there are so many: byte by byte at first, since most are shorter.
+// The same, by runs first.
 fn run_end<'a>(line: &'a [u8], from: usize, all: u64, kind: u64, masks: &'a [u64; 256]) -> usize
     ensures { λ r. ⌜ Kind (now (masks .entry)) (now (line .entry)) all kind from r ⌝ }
 {
     if line.len() <= from {
         return from;
     }
-    let near = from + words::least(RUN, line.len() - from);
-    let mut i = from;
-    while i < near {
-        if all & masks[words::wide(line[i])] != kind {
-            return i;
-        }
-        i += 1;
-    }
-    let far = skip_runs(line, i, all, kind, masks);
+    let far = skip_runs(line, from, all, kind, masks);
     kind_end(line, far, all, kind, masks)
 }
 

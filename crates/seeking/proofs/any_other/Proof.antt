@@ -9,22 +9,22 @@ use Rattle.seeking.proofs.any_other.Statement.{statement}
 use Rattle.seeking.proofs.any_other.Tie as tie
 
 abbrev Inv-loop : tie.InvT-loop
-Inv-loop line i all kind masks any₀ z₀ any z = Chunk (Other masks all kind) line 16 i any z
+Inv-loop line i all kind masks any₀ z₀ any z = Chunk (Other masks all kind) line 8 i any z
 
 abbrev μ-loop : tie.MeasureT-loop
-μ-loop line i all kind masks any₀ z₀ any z = 16 - z
+μ-loop line i all kind masks any₀ z₀ any z = 8 - z
 
 loop-again : tie.Need-loop-again Inv-loop μ-loop
 loop-again c =
     let a = c .before .before .before .before .before .before .before .args in
     let l = c .before .before .before .before .before .loop in
-    chunk-more (Other (a .masks .now) (a .all) (a .kind)) (a .line .now) 16 (a .i) (l .any) (l .z) (c .differ .result) (l .inv) (omega arith) (λ e n. n (rw (c .before .before .wide .ensures .0) at (c .differ .ensures e)))
+    chunk-more (Other (a .masks .now) (a .all) (a .kind)) (a .line .now) 8 (a .i) (l .any) (l .z) (c .differ .result) (l .inv) (omega arith) (λ e n. n (rw (c .before .before .wide .ensures .0) at (c .differ .ensures e)))
 
 returns : tie.Need-returns Inv-loop μ-loop
 returns c =
     let a = c .before .before .before .args in
     let l = c .before .loop in
-    chunk-all (Other (a .masks .now) (a .all) (a .kind)) (a .line .now) 16 (a .i) (l .any) (l .z) (l .inv) (omega arith)
+    chunk-all (Other (a .masks .now) (a .all) (a .kind)) (a .line .now) 8 (a .i) (l .any) (l .z) (l .inv) (omega arith)
 
 pub any-other-spec : {M : Type 1} → statement M
 any-other-spec =
