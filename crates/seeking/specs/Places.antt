@@ -16,11 +16,12 @@ pub record Kind (masks w : List ℕ) (all kind i r : ℕ) : Type 0 where
   pub alike : (k : ℕ) → i ≤ k → k < r → bitAnd all (getD masks (getD w k 0) 0) ≡ kind
   pub other : r < length w → bitAnd all (getD masks (getD w r 0) 0) ≡ kind → ⊥
 
--- The same if `is`; else no byte is passed over.
+-- The same if `is`; else r is i.
 pub record Passed (is : Bool) (masks w : List ℕ) (all kind i r : ℕ) : Type 0 where
   pub more : i ≤ r
   pub within : i ≤ length w → r ≤ length w
   pub alike : (k : ℕ) → i ≤ k → k < r → (is ≡ true) × (bitAnd all (getD masks (getD w k 0) 0) ≡ kind)
+  pub other : is ≡ true → r < length w → bitAnd all (getD masks (getD w r 0) 0) ≡ kind → ⊥
 
 -- No byte from i to r is one of those that P says.
 pub record Lacks (P : ℕ → Type 0) (w : List ℕ) (i r : ℕ) : Type 0 where
