@@ -16,8 +16,8 @@
 #include <stdint.h>
 
 /* The version of this header: 10,000 times the first number, 100 times the second, and the third. */
-#define YINDORKA_VERSION "1.0.1"
-#define YINDORKA_VERSION_NUMBER 10001
+#define YINDORKA_VERSION "1.1.0"
+#define YINDORKA_VERSION_NUMBER 10100
 
 #ifdef __cplusplus
 extern "C" {

@@ -37,13 +37,17 @@ def encoded(*patterns):
 # Paper 01, 'Reference lines', and the three of 'The programs'.
 REFERENCE = encoded('a|ab', '(a|ab)*', 'a*(b|abc)', 'ab|a', 'a*', 'b*', 'a', 'a{2,3}', '(|a)*', '()', 'a**', 'a{2,1}', 'a{63}b', 'a{63}bc', '(' * 17, 'a(')
 
-CHECKED = REFERENCE + encoded(
+# Paper 02, request 1: an empty turn ends a repeat. By it the first five are unlike, the next two get another count or witness, the two after them other records, and the rest are as without it.
+EMPTY_TURNS = encoded('(|a)+', '(|a){2,}', '((|a)*b?)*', '((|a)(|b))*', '(a*|b)*', '(|a*)*b', '(()|a){1,}|b', '(()|ab)*c', '((a|)*|ab)*',
+                      '(a|)*b', '(a*)*', '(a*)+', '(b|a*)*', '(|a){0,3}', '(|a|aaa){0,2}(ab|bc)')
+
+CHECKED = REFERENCE + EMPTY_TURNS + encoded(
     # the empty pattern, a blank line
     '',
     # refusal 1: one byte too many, a line that is not kept whole, a line longer than a chunk of the input
     'a' * 256, '(' * 1100, 'a' * 66000,
     # 2 to 8
-    ')', 'a]', '}', '^a', '(|+)', 'a{2}{3}', '\\', 'ab\\n', '[', '[]', '[z-a]', '[[:digit]]', 'a{', 'a{,3}', 'a{64}', '((a)', '(' * 16 + 'a' + ')' * 15 + '(', '(a{33}){2}', '(a{63}bc){0}',
+    ')', 'a]', '}', '^a', '(|+)', 'a??|', 'a{2}{3}', '\\', 'ab\\n', '[', '[]', '[z-a]', '[[:digit]]', 'a{', 'a{,3}', 'a{64}', '((a)', '(' * 16 + 'a' + ')' * 15 + '(', '(a{33}){2}', '(a{63}bc){0}', '(a|ab|b){21}(c|cd)?',
     # the limits: 255 bytes, depth 16, weight 64
     '[' + 'a' * 253 + ']', '(' * 16 + 'a|ab' + ')' * 16, '(a|ab){21}c', '(' * 16 + 'a' + ')*' * 16, deep(16), '(' + nest(15, '){0,63}' + nest(16)),
     # the same wanted leaves in another order are another standing
@@ -59,13 +63,18 @@ CHECKED = REFERENCE + encoded(
     # and the last newline left out
     'a(|b)')
 
-EXPLAINED = REFERENCE + encoded('', 'b(|a)', 'x?(|y)', '(|a|ab)(c|bcd)?', 'a|ab|abc', '[ab](|[bc]+)', 'a{0,2}ab?', b'\xff(|\x00)', '(.|a.{10})*', 'a' * 256, '(a|ab)(bc|c)?')
+EXPLAINED = REFERENCE + EMPTY_TURNS + encoded(
+    # deep and heavy
+    '(' * 16 + 'a|ab' + ')' * 16, '(' * 16 + '|a' + ')?' * 16, deep(16), '(' + nest(15, '){0,63}' + nest(16)), '(a|ab){20}(|a)(|b)',
+    # both verdicts, any bytes, refusals 10 and 1
+    '', 'b(|a)', 'x?(|y)', '(|a|ab)(c|bcd)?', 'a|ab|abc', '[ab](|[bc]+)', 'a{0,2}ab?', b'\xff(|\x00)', '(.|a.{10})*', 'a' * 256, '(a|ab)(bc|c)?')
 
 # Every refusal, both verdicts, with every kind of buffer.
 LENGTHS = [(t, w) for t in (0, 1, 63, 64, 65, 127, 128, 255, 256, 257) for w in (0, 1, 2, 3)]
 CALLS = [(p, t, w) for p in encoded('a|ab', '(a|ab)*', 'a*', '()', 'a(') for t, w in LENGTHS]
 CALLS += [(p, t, w) for p in encoded('', 'a' * 256, 'a**', '\\', '[z-a]', 'a{2,1}', '((', '(' * 17, 'a{63}bc') for t, w in ((0, 0), (1, 1), (64, 0), (130, 2))]
 CALLS += [(p, t, w) for p in encoded('a|ab', 'a{63}', '(a?a)*', '[a-c]|b\xff', 'a(|bcdefg)') for t, w in ((639, 6), (640, 7), (641, 8), (8192, 1024))]
+CALLS += [(p, t, w) for p in encoded('(|a)*') + EMPTY_TURNS for t, w in ((0, 0), (64, 1), (127, 2), (191, 1), (192, 0), (192, 1), (257, 3), (575, 3), (576, 2), (640, 8))]
 
 
 def shown(pattern):

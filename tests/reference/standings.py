@@ -1,4 +1,5 @@
-"""A slow, obvious reading of paper 01's outcomes, spans, standings, records and refusals 10 and 11, apart from the product. The reader is paper01.py's.
+"""A slow, obvious reading of paper 01's outcomes, spans, standings, records and refusals 10 and 11, with request 1 of paper 02, apart from the product. The reader is
+paper01.py's.
 
 check(pattern, table, witness) -> (line that the checker program prints, table afterwards, witness buffer afterwards)."""
 from paper01 import leaves, read
@@ -42,8 +43,9 @@ def outcomes(r, line):
             return after(r[2], of(r[1], i))
         if r[0] == 'alt':
             return of(r[1], i) + of(r[2], i)
-        turns = [x for x in of(r[1], i) if x != ('ends', i)]
-        return after(r, turns) + [('ends', i)]
+        # A repeat. Request 1 of paper 02: an empty turn's end stays in its place, as the repeat's.
+        turns = [o for x in of(r[1], i) for o in ([x] if x == ('ends', i) else after(r, [x]))]
+        return turns + [('ends', i)]
 
     return lambda i: of(r, i)
 

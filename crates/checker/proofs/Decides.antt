@@ -6,6 +6,7 @@ use mathlib.Core.List.{List}
 use native.Mathlib.Omega.{arith}
 use lib.ListN.{length}
 use Rattle.theory.specs.Pattern.{Re, Numbered}
+use Rattle.theory.specs.Standing.{standing}
 use Rattle.theory.specs.Records.{Unlike}
 use Rattle.theory.proofs.Lines.{snoc-size, snoc-last}
 use Rattle.theory.proofs.Records.{search-records}
@@ -50,7 +51,7 @@ module _ {r : Re} (d : Numbered 0 r) {t₀ : List ℕ} {n : ℕ} {t : List ℕ} 
   pub last-lined : (0 < n) × Lined t (n - 1)
   last-lined = (omega (arith, x .size), (x .line, last-line))
 
-  first : Unlike r (x .lines) (x .line)
+  first : Unlike (standing r) (x .lines) (x .line)
   first = record { records = search-records r d (x .search); none = x .none; witness = x .witness }
 
   few : length (x .lines) < slots (length t₀)

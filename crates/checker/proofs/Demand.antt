@@ -1,11 +1,13 @@
 -- Demands 1 and 3 in their words, about the result of `check` and the content of both buffers.
 -- Assumes nothing.
 use mathlib.Core.Path.{_≡_, refl, ap, ap₂, _∙_, subst}
-use mathlib.Core.Logic.{_⊎_, inl, inr, _↔_, Iff·trans}
+use mathlib.Core.Logic.{_⊎_, inl, inr, _↔_, Iff·symm, Iff·trans}
 use Prim.Native.Nat.{ℕ, _≤_}
 use mathlib.Core.List.{List}
 use native.Mathlib.Omega.{arith}
 use lib.ListN.{length, take, drop}
+use Rattle.theory.specs.Standing.{standingBy}
+use Rattle.theory.specs.Base.{base, Plain}
 use Rattle.theory.specs.Preference.{Robust}
 use Rattle.theory.proofs.Tests.{either}
 use Rattle.grammar.specs.Grammar.{Alternation}
@@ -13,12 +15,13 @@ use Rattle.grammar.specs.Limits.{Reads}
 use Rattle.grammar.specs.Refusals.{Fault}
 use Rattle.grammar.specs.WriteOut.{writeOut}
 use Rattle.verdict.specs.Table.{slots}
-use Rattle.verdict.specs.Checked.{Result, refused, Whole, whole, Checked, by-reader}
+use Rattle.verdict.specs.Checked.{Result, refused, Whole, whole, CheckedBy, Checked, by-reader}
 use Rattle.verdict.specs.Demand.{NoneCut, FirstCut, Number, Outnumber, Longer}
 use Rattle.verdict.specs.Code.Found.{Found, not-read, same-cuts, first-witness, no-slot, no-room}
 use Rattle.grammar.proofs.Right.{either-way, not-both}
 use Rattle.verdict.proofs.Checked.{checked-one, checked-found}
 use Rattle.verdict.proofs.Promise.{fault-number}
+use Rattle.verdict.proofs.Unmoved.{plain-checked}
 use Rattle.verdict.proofs.Demand.{RefusedBy, checked-is, none-robust, alike-means, unlike-means, ten-exactly, eleven-exactly, withheld-exactly, refused-means, lengths-kept}
 use Rattle.checker.specs.declared.Verdict.{Verdict}
 use Rattle.checker.specs.declared.Verdict.the-variants.{Alike, Unlike, Refused}
@@ -63,6 +66,10 @@ module _ (p t v : List ℕ) (x : Verdict) (t′ v′ : List ℕ) (h : Checks p t
     λ none. either (λ (a, i). absurd (none a i)) (λ (n, q, f). (n, q, fault-number f, one-result (by-reader f))) (either-way p),
   )
 
+  -- AS BEFORE THE REQUESTS: what `check` hands over for a plain pattern is the one right result by paper 01's list as it was.
+  pub check-plain : ((a : Alternation) → Reads p a → Plain (writeOut a)) → (z : Whole) → CheckedBy (standingBy base) p t v z ↔ (z ≡ whole (resultOf x) t′ v′)
+  check-plain d z = Iff·trans (Iff·symm (plain-checked d z)) (check-is z)
+
   -- The buffers keep their lengths.
   pub check-lengths : (length t′ ≡ length t) × (length v′ ≡ length v)
   check-lengths = lengths-kept h
@@ -78,13 +85,13 @@ module _ (p t v : List ℕ) (x : Verdict) (t′ v′ : List ℕ) (h : Checks p t
         → FirstCut (writeOut a) (take k v′) × Number (writeOut a) n × (length (take k v′) ≡ k) × (drop k v′ ≡ drop k v)
     check-unlike e = unlike-means a reads (right e)
 
-    -- ROBUST by source 000's Definition 4, if the verdict is alike;
-    pub check-robust : {n : ℕ} → x ≡ Alike n → Robust 256 (writeOut a)
-    check-robust e = none-robust (writeOut a) .0 (check-alike e .0)
+    -- ROBUST by source 000's Definition 4, if the pattern is plain and the verdict is alike;
+    pub check-robust : {n : ℕ} → Plain (writeOut a) → x ≡ Alike n → Robust 256 (writeOut a)
+    check-robust d e = none-robust (writeOut a) d .0 (check-alike e .0)
 
     -- NOT ROBUST, if it is unlike.
-    pub check-not-robust : {n k : ℕ} → x ≡ Unlike n k → Robust 256 (writeOut a) → ⊥
-    check-not-robust {k = k} e f = let c = check-unlike e .0 in none-robust (writeOut a) .1 f (take k v′) (c .bytes) (c .cut)
+    pub check-not-robust : {n k : ℕ} → Plain (writeOut a) → x ≡ Unlike n k → Robust 256 (writeOut a) → ⊥
+    check-not-robust {k = k} d e f = let c = check-unlike e .0 in none-robust (writeOut a) d .1 f (take k v′) (c .bytes) (c .cut)
 
     -- WITHHELD: exactly if the distinct standings of the lines that no line cut differently comes before outnumber the slots, or the first line cut differently is
     -- longer than the buffer;

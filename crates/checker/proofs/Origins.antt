@@ -48,7 +48,7 @@ line-step p empty = absurd (omega arith)
 line-step p (comes {w = w} q h x) = record { before = w; lower = h; line = x; added = refl }
 
 -- The line of record k is line k, in a table that a search has filled.
-zero-line : (r : Re) {L : List (List ℕ)} → Records r L → 0 < length L → at L 0 ≡ []
+zero-line : (r : Re) {L : List (List ℕ)} → Records (standing r) L → 0 < length L → at L 0 ≡ []
 zero-line r {L} a l = go (at L 0) refl (from-where (at L 0))
   where
     go : (w : List ℕ) → at L 0 ≡ w → From w → w ≡ []
@@ -56,7 +56,7 @@ zero-line r {L} a l = go (at L 0) refl (from-where (at L 0))
     go _ e (grown u b) = let (j, h, s) = a .before 0 l [] tt (rw e (≺-empty u b)) in absurd (omega arith)
 
 module _ (r : Re) (d : Numbered 0 r) {t₀ : List ℕ} {L : List (List ℕ)} {t : List ℕ} {q c : ℕ} (h : HoldsRecords r t₀ L t) (x : Search r L q c) where
-  fields : (k : ℕ) → k < length L → (j b : ℕ) → j < 65536 → b < 256 → recordOf r L (at L k) ≡ recordBytes (standing r (at L k)) j b → (originAt t k ≡ j) × (byteAt t k ≡ b)
+  fields : (k : ℕ) → k < length L → (j b : ℕ) → j < 65536 → b < 256 → recordOf (standing r) L (at L k) ≡ recordBytes (standing r (at L k)) j b → (originAt t k ≡ j) × (byteAt t k ≡ b)
   fields k l j b hj hb e =
       let is : slotAt t k ≡ recordBytes (standing r (at L k)) j b = ap (λ y. slotAt y k) (h .table) ∙ slot r L t₀ k l ∙ e in
       let byte : (i : ℕ) → i < 64 → getD t (64 * k + i) 0 ≡ getD (recordBytes (standing r (at L k)) j b) i 0 = λ i g. slot-byte t k i g ∙ ap (λ y. getD y i 0) is in

@@ -43,12 +43,10 @@ module _ {kinds sizes : List ℕ} {low end : ℕ} {rest out r : Outcomes} where
         rw (kind-leaf masks (lastKind kinds end) _ _ _ k, lt-ltb (lastKind kinds end - 4) 64 (omega arith))
         (l .are ∙ sym (ap (λ p. gather (listed out) (p ∷ [])) e) ∙ sym (into-leaf (listed rest) (listed out) (lastKind kinds end - 4) _))
 
-    pub closure-star : {n t : Outcomes} → lastKind kinds end ≡ 3 → Lists n [] → Collects into kinds sizes low (end - 1) n out t → Lists r (gather (listed t) (listed rest)) → Collects into kinds sizes low end rest out r
-    closure-star {n} {t} e blank turns l =
+    pub closure-star : {t : Outcomes} → lastKind kinds end ≡ 3 → Collects into kinds sizes low (end - 1) rest out t → Lists r (gather (listed t) (listed rest)) → Collects into kinds sizes low end rest out r
+    closure-star e turns l =
         by-last into kinds sizes low end rest out r h (l .good) λ masks f g.
-        let x = part f kinds sizes masks low (end - 1) in
-        let turn : listed t ≡ into [] (listed out) x = turns .are masks f (omega arith) ∙ ap (λ v. into v (listed out) x) (blank .are) in
-        rw e (l .are ∙ ap (λ v. gather v (listed rest)) turn ∙ sym (into-star (listed rest) (listed out) x))
+        rw e (l .are ∙ ap (λ v. gather v (listed rest)) (turns .are masks f (omega arith)) ∙ sym (into-star (listed rest) (listed out) (part f kinds sizes masks low (end - 1))))
 
     module _ {m : ℕ} (at : m ≡ middle sizes low (end - 1)) where
       pub closure-seq : {n y : Outcomes} → lastKind kinds end ≡ 1 → Lists n [] → Collects into kinds sizes m (end - 1) rest n y → Collects into kinds sizes low m y out r → Collects into kinds sizes low end rest out r

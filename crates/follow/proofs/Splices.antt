@@ -6,10 +6,11 @@ use mathlib.Core.Bool.{Bool}
 use mathlib.Core.List.{List, [], _∷_, _++_, append-nil, append-assoc}
 use borrow.Author.Tests.{eq-eqb, ne-eqb}
 use Rattle.theory.specs.Pattern.{Re, empty, leaf, seq, alt, star}
-use Rattle.theory.specs.Outcomes.{endsAt, andThen, emptyTurn, thenLeave}
+use Rattle.theory.specs.Outcomes.{endsAt, andThen, thenLeave}
 use Rattle.theory.specs.Standing.{gather, once}
 use Rattle.theory.specs.Code.Follow.{Next, start, follow}
 use Rattle.theory.specs.Code.Closure.{items, splice}
+use Rattle.theory.proofs.Turns.{andThen-emptyTurn}
 use Rattle.theory.proofs.Members.{gather-append}
 use Rattle.theory.proofs.Closure.{gather-once, items-append, items-andThen}
 use Rattle.follow.specs.Parts.{into, intoAfter}
@@ -55,11 +56,9 @@ module _ (rest out : List ℕ) where
   unfolding start
   into-alt x y = both out rest (start x) (start y)
 
-  pub into-star : (x : Re) → into rest out (star x) ≡ gather (into [] out x) rest
-  unfolding start emptyTurn thenLeave
-  into-star x =
-      both out rest (andThen (start x) (λ _. [])) (endsAt tt ∷ [])
-      ∙ rw (append-nil rest, then out rest (start x) [])
+  pub into-star : (x : Re) → into rest out (star x) ≡ gather (into rest out x) rest
+  unfolding start thenLeave
+  into-star x = rw (andThen-emptyTurn (start x)) (both out rest (start x) (endsAt tt ∷ []) ∙ rw (append-nil rest))
 
   module _ (p : ℕ) where
     pub after-empty : intoAfter p rest out empty ≡ out

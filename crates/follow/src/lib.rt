@@ -151,15 +151,14 @@ fn closure<'a>(
     if Pattern::STAR < kind {
         return add(out, kind - Pattern::STAR);
     }
-    let nothing = none();
     if kind == Pattern::STAR {
-        // the end of an empty turn is dropped
-        let turns = closure(kinds, sizes, low, last, nothing, out);
+        // the end of an empty turn is the repeat's, in its place
+        let turns = closure(kinds, sizes, low, last, rest, out);
         return join(turns, rest);
     }
     let m = middle(sizes, low, last);
     if kind == Pattern::SEQUENCE {
-        let right = closure(kinds, sizes, m, last, rest, nothing);
+        let right = closure(kinds, sizes, m, last, rest, none());
         return closure(kinds, sizes, low, m, right, out);
     }
     let left = closure(kinds, sizes, low, m, rest, out);

@@ -20,13 +20,13 @@ use Rattle.search.specs.Ends.{HoldsRecords}
 module _ (r : Re) {t₀ : List ℕ} {L : List (List ℕ)} {t : List ℕ} (h : HoldsRecords r t₀ L t) where
   -- The table keeps its length,
   pub same-length : length t ≡ length t₀
-  same-length = ap length (h .table) ∙ onto-length t₀ (records r L) (omega (arith, records-size r L L, slots-fit (length t₀), h .fits))
+  same-length = ap length (h .table) ∙ onto-length t₀ (records (standing r) L) (omega (arith, records-size r L L, slots-fit (length t₀), h .fits))
 
   -- and has a slot for each record.
   pub slot-inside : (k : ℕ) → k < length L → k < length t / 64
   slot-inside k l = omega (arith, same-length, slots-fit (length t₀), h .fits)
 
-  pub slot-record : (k : ℕ) → k < length L → slotAt t k ≡ recordBytes (standing r (at L k)) (numberOf r L (standing r (body (at L k)))) (lastByte (at L k))
+  pub slot-record : (k : ℕ) → k < length L → slotAt t k ≡ recordBytes (standing r (at L k)) (numberOf (standing r) L (standing r (body (at L k)))) (lastByte (at L k))
   slot-record k l = ap (λ x. slotAt x k) (h .table) ∙ slot r L t₀ k l
 
   module _ (d : Numbered 0 r) (few : count r ≤ 64) (w : List ℕ) (o b : ℕ) {n k : ℕ} (size : length L ≡ n)
@@ -42,4 +42,4 @@ module _ (r : Re) {t₀ : List ℕ} {L : List (List ℕ)} {t : List ℕ} (h : Ho
     pub not-found : n ≤ k → (j : ℕ) → j < n → standing r (at L j) ≢ standing r w
     not-found g j l e =
         looked .before j (omega arith)
-        (subst (λ x. Agree x (recordBytes (standing r w) o b)) (sym (slot-record j (omega arith))) (subst (λ s. Agree (recordBytes (standing r (at L j)) (numberOf r L (standing r (body (at L j)))) (lastByte (at L j))) (recordBytes s o b)) e (same-agree (standing r (at L j)) _ _ o b)))
+        (subst (λ x. Agree x (recordBytes (standing r w) o b)) (sym (slot-record j (omega arith))) (subst (λ s. Agree (recordBytes (standing r (at L j)) (numberOf (standing r) L (standing r (body (at L j)))) (lastByte (at L j))) (recordBytes s o b)) e (same-agree (standing r (at L j)) _ _ o b)))

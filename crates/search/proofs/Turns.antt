@@ -26,13 +26,13 @@ use Rattle.search.specs.Ends.{HoldsRecords, AllFound, WitnessFound, Slot
 use Rattle.search.specs.Turns.{Searching, Working}
 
 -- The table with one record, and with none.
-one-record : (r : Re) (t₀ : List ℕ) → 0 < slots (length t₀) → onto t₀ (records r ([] ∷ [])) ≡ sets t₀ 0 (recordBytes (standing r []) 0 0)
+one-record : (r : Re) (t₀ : List ℕ) → 0 < slots (length t₀) → onto t₀ (records (standing r) ([] ∷ [])) ≡ sets t₀ 0 (recordBytes (standing r []) 0 0)
 unfolding recordsOf
 one-record r t₀ h =
     ap (onto t₀) (append-nil _ ∙ record-zero r [])
     ∙ onto-sets t₀ (recordBytes (standing r []) 0 0) (omega (arith, record-64 (standing r []) 0 0, slots-fit (length t₀)))
 
-no-record : (r : Re) (t₀ : List ℕ) → t₀ ≡ onto t₀ (records r [])
+no-record : (r : Re) (t₀ : List ℕ) → t₀ ≡ onto t₀ (records (standing r) [])
 unfolding recordsOf
 no-record r t₀ = refl
 
@@ -86,16 +86,16 @@ module _ {r : Re} (d : Numbered 0 r) {t₀ : List ℕ} where
             let L = w .state .lines in
             let u = line w in
             let old : standing r (at (L ++ (u ∷ [])) q) ≡ standing r (at L q) = ap (standing r) (snoc-old L u q here) in
-            let new-record : recordOf r (L ++ (u ∷ [])) u ≡ recordBytes (standing r u) q c = record-is r (search-records r d grown) (at L q) c q (omega (arith, here, snoc-size L u)) old in
-            let size : length (records r L) ≡ 64 * n = records-size r L L ∙ ap (λ k. 64 * k) (w .state .size) in
-            let space : length (records r L) + length (recordBytes (standing r u) q c) ≤ length t₀ = omega (arith, size, record-64 (standing r u) q c, slots-fit (length t₀), room) in
+            let new-record : recordOf (standing r) (L ++ (u ∷ [])) u ≡ recordBytes (standing r u) q c = record-is r (search-records r d grown) (at L q) c q (omega (arith, here, snoc-size L u)) old in
+            let size : length (records (standing r) L) ≡ 64 * n = records-size r L L ∙ ap (λ k. 64 * k) (w .state .size) in
+            let space : length (records (standing r) L) + length (recordBytes (standing r u) q c) ≤ length t₀ = omega (arith, size, record-64 (standing r u) q c, slots-fit (length t₀), room) in
             record {
               fits = omega (arith, more, room);
               table =
                   stored
                   ∙ ap₂ (λ a k. sets a k (recordBytes (standing r u) q c)) (w .state .holds .table) (sym size)
-                  ∙ sym (onto-more t₀ (records r L) (recordBytes (standing r u) q c) space)
-                  ∙ ap (λ x. onto t₀ (records r L ++ x)) (sym new-record)
+                  ∙ sym (onto-more t₀ (records (standing r) L) (recordBytes (standing r u) q c) space)
+                  ∙ ap (λ x. onto t₀ (records (standing r) L ++ x)) (sym new-record)
                   ∙ ap (onto t₀) (sym (records-add r u (search-records r d (w .state .search))));
             }
 

@@ -17,14 +17,14 @@ use Rattle.search.specs.declared.Progress.the-variants as Progress
 -- The table t, once t₀, holds the records of the lines L.
 pub record HoldsRecords (r : Re) (t₀ : List ℕ) (L : List (List ℕ)) (t : List ℕ) : Type 0 where
   pub fits : length L ≤ slots (length t₀)
-  pub table : t ≡ onto t₀ (records r L)
+  pub table : t ≡ onto t₀ (records (standing r) L)
 
 -- All records, n of them, and none a witness's.
 pub record AllFound (r : Re) (t₀ : List ℕ) (n : ℕ) (t : List ℕ) : Type 0 where
   pub lines : List (List ℕ)
   pub size : length lines ≡ n
   pub holds : HoldsRecords r t₀ lines t
-  pub alike : Alike r lines
+  pub alike : Alike (standing r) lines
 
 -- n records, the last the first witness's. The search that found them says where each comes from.
 pub record WitnessFound (r : Re) (t₀ : List ℕ) (n : ℕ) (t : List ℕ) : Type 0 where
@@ -32,7 +32,7 @@ pub record WitnessFound (r : Re) (t₀ : List ℕ) (n : ℕ) (t : List ℕ) : Ty
   pub line : List ℕ
   pub size : suc (length lines) ≡ n
   pub holds : HoldsRecords r t₀ (lines ++ (line ∷ [])) t
-  pub none : NoWitness r lines
+  pub none : NoWitness (standing r) lines
   pub witness : T (isWitness (standing r line))
   pub q : ℕ
   pub c : ℕ

@@ -20,7 +20,7 @@ pub record Searching (r : Re) (t₀ : List ℕ) (q c n : ℕ) (t : List ℕ) : T
   pub lines : List (List ℕ)
   pub size : length lines ≡ n
   pub holds : HoldsRecords r t₀ lines t
-  pub none : NoWitness r lines
+  pub none : NoWitness (standing r) lines
   pub search : Search r lines q c
 
 -- At work on record q, whose standing is s.

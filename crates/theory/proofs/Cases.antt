@@ -42,10 +42,26 @@ pub no-turn : greedy (star (byte 0 97)) (98 ∷ []) ≡ span 0 0
 unfolding greedy outcomes starOutcomes emptyTurn thenLeave
 no-turn = refl
 
--- The end of an empty turn is dropped: `(|a)*` on aa is 0 2.
-pub empty-turn : greedy (star (alt empty (byte 0 97))) (97 ∷ 97 ∷ []) ≡ span 0 2
+-- An empty turn ends the loop: `(|a)*` on aa is 0 0 for greedy, 0 2 for POSIX, and unlike with witness 61.
+abbrev empty-or-a : Re
+empty-or-a = star (alt empty (byte 0 97))
+
+pub empty-turn : greedy empty-or-a (97 ∷ 97 ∷ []) ≡ span 0 0
 unfolding greedy outcomes starOutcomes emptyTurn thenLeave
 empty-turn = refl
+
+pub empty-turn-posix : posix empty-or-a (97 ∷ 97 ∷ []) ≡ span 0 2
+unfolding posix outcomes starOutcomes emptyTurn thenLeave
+empty-turn-posix = refl
+
+pub empty-turn-witness : isWitness (standing empty-or-a (97 ∷ [])) ≡ true
+unfolding standing outcomes starOutcomes emptyTurn thenLeave
+empty-turn-witness = refl
+
+-- It stays in its place, before what comes after it in the turn: (a) of the empty line has no leaf.
+pub empty-turn-place : standing empty-or-a [] .order ≡ []
+unfolding standing outcomes count starOutcomes emptyTurn thenLeave
+empty-turn-place = refl
 
 -- The line's end is a start, too: `a*` on the empty line is 0 0, and `a` has none.
 pub last-start : greedy (star (byte 0 97)) [] ≡ span 0 0

@@ -7,11 +7,12 @@ use mathlib.Core.List.{List, [], _∷_, _++_, append-nil, append-assoc}
 use native.Mathlib.Omega.{arith}
 use lib.Dec.{T, eqb, eqb→eq, eqb·suc-suc, eqb·zero-suc, eqb·suc-zero}
 use Rattle.theory.specs.Pattern.{Re, empty, leaf, seq, alt, star, has, count}
-use Rattle.theory.specs.Outcomes.{endsAt, wants, andThen, when, emptyTurn, thenLeave}
+use Rattle.theory.specs.Outcomes.{endsAt, wants, andThen, when, thenLeave}
 use Rattle.theory.specs.Code.Follow.{Next, start, follow, after, hasEnd}
 use Rattle.theory.specs.Standing.{fronts, wanted, member, gather, once, from, filter, setOf, Standing}
 use Rattle.theory.specs.Code.Next.{afters, next}
 use Rattle.theory.specs.Code.Closure.{flat, item, items, at0, splice, closure, closureAfter, takes, moves, front}
+use Rattle.theory.proofs.Turns.{andThen-emptyTurn}
 use Rattle.theory.proofs.Tests.{true-T, or-left, or-right, or-cases, either}
 use Rattle.theory.proofs.Members.{Within, member-append, gather-append, gather-absorb, gather-member, filter-same}
 
@@ -86,13 +87,12 @@ append-once : (s l m : List ℕ) → gather s (once l ++ once m) ≡ gather s (l
 append-once s l m = rw (gather-append s (once l) (once m), gather-once s l, gather-once (gather s l) m, ← gather-append s l m)
 
 pub closure-right : (r : Re) → closure r ≡ once (items (start r))
-unfolding closure start emptyTurn thenLeave
+unfolding closure start thenLeave
 closure-right empty = refl
 closure-right (leaf p s) = refl
 closure-right (seq x y) = rw (closure-right x, closure-right y, items-andThen (start x) (start y)) (splice-once [] (items (start x)) (items (start y)))
 closure-right (alt x y) = rw (closure-right x, closure-right y, items-append) (append-once [] (items (start x)) (items (start y)))
-closure-right (star x) = rw (closure-right x, items-append, items-andThen (start x) [])
-    (gather-append [] (splice [] (once (items (start x)))) (0 ∷ []) ∙ ap (λ v. gather v (0 ∷ [])) (flat-forget (at0 []) [] [] (items (start x))) ∙ sym (gather-append [] (splice [] (items (start x))) (0 ∷ [])))
+closure-right (star x) = rw (closure-right x, andThen-emptyTurn, items-append) (append-once [] (items (start x)) (0 ∷ []))
 
 pub closureAfter-right : (r : Re) (p : ℕ) → closureAfter r p ≡ once (items (follow r p))
 unfolding closureAfter follow

@@ -3,7 +3,7 @@
 use mathlib.Core.Path.{_≡_, refl, sym, ap, _∙_}
 use mathlib.Core.Logic.{_≢_}
 use Prim.Native.Nat.{ℕ, zero, suc, _+_, _-_, _≤_, _<_, max}
-use mathlib.Core.Bool.{Bool, true, false, _&&_, not}
+use mathlib.Core.Bool.{Bool, true, false, not}
 use mathlib.Core.List.{List, [], _∷_, _++_, append-nil, append-assoc}
 use mathlib.Core.Option.{Option, none, some, Option·map, Option·some-ne-none, discrete}
 use native.Mathlib.Omega.{arith}
@@ -22,7 +22,7 @@ use Rattle.theory.proofs.Equations.{outcomes-all, outcomes-star}
 use Rattle.theory.proofs.Turns.{replace-thenLeave, afterTurn-congr, replace-afterTurn}
 use Rattle.theory.proofs.Extend.{place, grow, extend}
 use Rattle.theory.specs.Code.Members.{any}
-use Rattle.theory.proofs.Tests.{T-true, not-true, same-test, or-left, or-right}
+use Rattle.theory.proofs.Tests.{T-true, not-true, same-test, or-left, or-right, and-split, and-join}
 
 span-end : {i k m : ℕ} → span i k ≡ span i m → k ≡ m
 span-end e = cc
@@ -166,6 +166,16 @@ greatest-is n {l = l} h t = go (greatestEnd l) (greatest l)
     go none g = absurd (some-in g n t)
     go (some m) g = ap some (let a = some-in h m (g .1) in let b = some-in (g .0) n t in omega arith)
 
+-- Lists with the same set of ends have the same greatest end.
+pub greatest-same : (l m : List (Outcome ℕ)) → ((k : ℕ) → T (someIs k l) → T (someIs k m)) → ((k : ℕ) → T (someIs k m) → T (someIs k l)) → greatestEnd l ≡ greatestEnd m
+greatest-same l m f g = go (greatestEnd l) (greatestEnd m) (greatest l) (greatest m)
+  where
+    go : (o q : Option ℕ) → Greatest o l → Greatest q m → o ≡ q
+    go none none a b = refl
+    go none (some k) a b = absurd (some-in a k (g k (b .1)))
+    go (some j) none a b = absurd (some-in b j (f j (a .1)))
+    go (some j) (some k) a b = ap some (let c = some-in (a .0) k (g k (b .1)) in let d = some-in (b .0) j (f j (a .1)) in omega arith)
+
 no-first : (l : List (Outcome ℕ)) → firstEnd l ≡ none → (k : ℕ) → T (someIs k l) → ⊥
 no-first [] e k t = t
 no-first (endsAt j ∷ l) e k t = Option·some-ne-none j e
@@ -175,14 +185,6 @@ no-greatest : {l : List (Outcome ℕ)} → AllOut (λ _. ⊥) (λ _. Unit {0}) l
 no-greatest AllOut.none = refl
 no-greatest (end h t) = absurd h
 no-greatest (wish h t) = no-greatest t
-
-and-split : (a b : Bool) → T (a && b) → T a × T b
-and-split true b t = (tt, t)
-and-split false b t = absurd t
-
-and-join : (a b : Bool) → T a → T b → T (a && b)
-and-join true b s t = t
-and-join false b s t = s
 
 -- A WITNESS IS CUT DIFFERENTLY.
 pub witness-cut : (r : Re) (w : List ℕ) → T (isWitness (standing r w)) → CutDifferently r w

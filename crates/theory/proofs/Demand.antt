@@ -1,22 +1,25 @@
 -- Demand 2: what the two spans are, by the matching relation.
 -- Assumes nothing.
 use mathlib.Core.Path.{_≡_, refl, sym, ap, _∙_, subst}
-use mathlib.Core.Logic.{_⊎_, _↔_}
+use mathlib.Core.Logic.{_⊎_, inr, _↔_}
 use Prim.Native.Nat.{ℕ, zero, suc, _+_, _≤_, _<_}
-use mathlib.Core.List.{List}
+use mathlib.Core.List.{List, [], _∷_}
 use mathlib.Core.Option.{Option, none, some}
 use native.Mathlib.Omega.{arith}
 use native.Mathlib.Decide.{decLt}
 use native.Mathlib.Decide.{ℕ-discrete}
 use lib.ListN.{length}
+use lib.Dec.{T, eqb, eqb-refl}
 use Rattle.theory.specs.Pattern.{Re}
-use Rattle.theory.specs.Outcomes.{outcomes}
+use Rattle.theory.specs.Outcomes.{Outcome, endsAt, wants, outcomes}
 use Rattle.theory.specs.Matching.{Matches}
 use Rattle.theory.specs.Spans.{firstEnd, greatestEnd, nowhere, span, spanOr, leftmost, greedy, posix}
-use Rattle.theory.specs.Preference.{LeastEnd, Prefer}
+use Rattle.theory.specs.Standing.{someIs}
+use Rattle.theory.specs.Preference.{LeastEnd}
 use Rattle.theory.specs.Demand.{LeftmostStart, PosixTakes, GreedyTakes, NoMatch}
-use Rattle.theory.proofs.Tests.{either}
-use Rattle.theory.proofs.Denotation.{first-least, greatest-least}
+use Rattle.theory.proofs.Tests.{or-left, either}
+use Rattle.theory.proofs.Matching.{ends-match, match-ends}
+use Rattle.theory.proofs.Denotation.{greatest-least}
 
 -- What `leftmost` finds: the first place that has an end.
 module _ (e : ℕ → Option ℕ) where
@@ -110,13 +113,25 @@ module _ (r : Re) (w : List ℕ) where
   abbrev Longer : ℕ → ℕ → ℕ → Type 0
   Longer i j k = k < j
 
+  abbrev Any : ℕ → ℕ → ℕ → Type 0
+  Any i j k = Unit {0}
+
+  -- The first end is a match, and there is one wherever there is a match.
+  first-matches : (i : ℕ) → LeastEnd (Matches w r i) (Any i) (first i)
+  first-matches i = go (outcomes r w i) (λ j t. ends-match w r i j t) (λ j m. match-ends w m)
+    where
+      go : {M : ℕ → Type 0} (l : List (Outcome ℕ)) → ((j : ℕ) → T (someIs j l) → M j) → ((j : ℕ) → M j → T (someIs j l)) → LeastEnd M (λ j k. Unit {0}) (firstEnd l)
+      go [] a b = λ j m. b j m
+      go (endsAt k ∷ l) a b = (a k (or-left (eqb k k) (someIs k l) (eqb-refl k)), λ j m. inr tt)
+      go (wants p ∷ l) a b = go l a b
+
   -- GREEDY: the first in the order of preference at the leftmost start.
   pub greedy-takes : (i j : ℕ) → (greedy r w ≡ span i j) ↔ GreedyTakes r w i j
   unfolding greedy
   greedy-takes i j = (
     λ q. let f = leftmost-inv first (suc (length w)) 0 i j q in
-        record { start = start-inv (Prefer w r) first (first-least r w) i j f; end = some-inv (Prefer w r) first (first-least r w) i j (f .here) .0; first = f .here },
-    λ t. leftmost-of first (suc (length w)) 0 i j (start-of (Prefer w r) first (first-least r w) i j (t .start) (t .first)),
+        record { start = start-inv Any first first-matches i j f; end = some-inv Any first first-matches i j (f .here) .0; first = f .here },
+    λ t. leftmost-of first (suc (length w)) 0 i j (start-of Any first first-matches i j (t .start) (t .first)),
   )
 
   -- POSIX: the greatest end there.
@@ -142,7 +157,7 @@ module _ (r : Re) (w : List ℕ) where
   -- NONE: no part of the line matches.
   pub greedy-none : (greedy r w ≡ nowhere) ↔ NoMatch r w
   unfolding greedy
-  greedy-none = nowhere-iff (Prefer w r) first (first-least r w)
+  greedy-none = nowhere-iff Any first first-matches
 
   pub posix-none : (posix r w ≡ nowhere) ↔ NoMatch r w
   unfolding posix

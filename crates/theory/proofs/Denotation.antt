@@ -1,4 +1,5 @@
--- The greedy and the POSIX span are source 000's denotations (its Definition 4).
+-- Source 000's denotations (its Definition 4): the POSIX one is the POSIX span; the greedy one is the span by paper 01's list before the requests, which for a plain
+-- pattern is the greedy span.
 -- Assumes nothing.
 use mathlib.Core.Path.{_≡_, refl, sym, _∙_, subst}
 use mathlib.Core.Logic.{inl, inr, _≢_, _↔_}
@@ -11,7 +12,8 @@ use lib.ListN.{length}
 use Rattle.theory.specs.Pattern.{Re}
 use Rattle.theory.specs.Outcomes.{Outcome, endsAt, wants, outcomes}
 use Rattle.theory.specs.Matching.{Matches}
-use Rattle.theory.specs.Spans.{firstEnd, greatestEnd, Span, nowhere, span, spanOr, leftmost, greedy, posix, CutDifferently}
+use Rattle.theory.specs.Spans.{firstEnd, greatestEnd, Span, nowhere, span, spanOr, leftmost, greedyBy, greedy, posix, CutDifferently}
+use Rattle.theory.specs.Base.{base, Plain}
 use Rattle.theory.specs.Lines.{Below}
 use Rattle.theory.specs.Preference.{Prefer, MatchSet, FromLeft, Greedy, Posix, Denotes, LeastEnd, Robust}
 use Rattle.theory.proofs.Tests.{either}
@@ -19,6 +21,7 @@ use Rattle.theory.proofs.Equations.{outcomes-all}
 use Rattle.theory.proofs.Outcomes.{ends, some-in}
 use Rattle.theory.proofs.Matching.{ends-match, match-ends}
 use Rattle.theory.proofs.Cut.{Greatest, greatest}
+use Rattle.theory.proofs.Unmoved.{plain-base, plain-greedy}
 use Rattle.theory.proofs.Ranked.{now, Ranks}
 use Rattle.theory.proofs.Preference.{in-order}
 use Rattle.theory.proofs.Linear.{asym}
@@ -29,9 +32,12 @@ first-of (endsAt k ∷ l) r = (r .sound k (head refl), λ j m. elim (ℕ-discret
 first-of (wants p ∷ l) r = first-of l r
 
 module _ (r : Re) (w : List ℕ) where
-  -- THE FIRST END IS THE PREFERRED, and the greatest is the longest.
-  pub first-least : (i : ℕ) → LeastEnd (Matches w r i) (Prefer w r i) (firstEnd (outcomes r w i))
-  first-least i = first-of (outcomes r w i) (in-order w r i)
+  base-least : (i : ℕ) → LeastEnd (Matches w r i) (Prefer w r i) (firstEnd (base r w i))
+  base-least i = first-of (base r w i) (in-order w r i)
+
+  -- THE FIRST END IS THE PREFERRED by source 000's order, if the pattern is plain; and the greatest is the longest.
+  pub first-least : Plain r → (i : ℕ) → LeastEnd (Matches w r i) (Prefer w r i) (firstEnd (outcomes r w i))
+  first-least p i = rw (plain-base w r p i) (base-least i)
 
   pub greatest-least : (i : ℕ) → LeastEnd (Matches w r i) (λ j k. k < j) (greatestEnd (outcomes r w i))
   greatest-least i = go (greatestEnd (outcomes r w i)) (greatest (outcomes r w i))
@@ -64,9 +70,11 @@ module _ (r : Re) (w : List ℕ) where
               ],
         )
 
-  pub greedy-denoted : Denotes (MatchSet w r) (Greedy w r) (greedy r w)
-  unfolding greedy
-  greedy-denoted = least-location (Prefer w r) (λ i. firstEnd (outcomes r w i)) first-least (suc (length w)) 0 (omega arith) (λ i j h m. omega arith)
+  pub base-denoted : Denotes (MatchSet w r) (Greedy w r) (greedyBy base r w)
+  base-denoted = least-location (Prefer w r) (λ i. firstEnd (base r w i)) base-least (suc (length w)) 0 (omega arith) (λ i j h m. omega arith)
+
+  pub greedy-denoted : Plain r → Denotes (MatchSet w r) (Greedy w r) (greedy r w)
+  greedy-denoted p = rw (plain-greedy r p w) base-denoted
 
   pub posix-denoted : Denotes (MatchSet w r) Posix (posix r w)
   unfolding posix
@@ -88,12 +96,15 @@ module _ (M : ℕ → ℕ → Type 0) (Less : ℕ → ℕ → ℕ → Type 0) (o
       either (λ (e, f). cc) (λ l. either (λ (e, f). cc) (λ m. absurd (not-both i j i′ j′ l m)) (b .1 i j (a .0))) (a .1 i′ j′ (b .0))
 
 module _ (r : Re) (w : List ℕ) where
-  -- s is source 000's denotation just if it is the span.
-  pub greedy-denotation : (s : Span) → Denotes (MatchSet w r) (Greedy w r) s ↔ (s ≡ greedy r w)
-  greedy-denotation s = (
-    λ a. one-location (MatchSet w r) (Prefer w r) (asym w r) s (greedy r w) a (greedy-denoted r w),
-    λ e. subst (Denotes (MatchSet w r) (Greedy w r)) (sym e) (greedy-denoted r w),
+  -- s is source 000's denotation just if it is the span: the greedy one by the list as it was,
+  pub base-denotation : (s : Span) → Denotes (MatchSet w r) (Greedy w r) s ↔ (s ≡ greedyBy base r w)
+  base-denotation s = (
+    λ a. one-location (MatchSet w r) (Prefer w r) (asym w r) s (greedyBy base r w) a (base-denoted r w),
+    λ e. subst (Denotes (MatchSet w r) (Greedy w r)) (sym e) (base-denoted r w),
   )
+
+  pub greedy-denotation : Plain r → (s : Span) → Denotes (MatchSet w r) (Greedy w r) s ↔ (s ≡ greedy r w)
+  greedy-denotation p s = rw (plain-greedy r p w) (base-denotation s)
 
   pub posix-denotation : (s : Span) → Denotes (MatchSet w r) Posix s ↔ (s ≡ posix r w)
   posix-denotation s = (
@@ -101,16 +112,16 @@ module _ (r : Re) (w : List ℕ) where
     λ e. subst (Denotes (MatchSet w r) Posix) (sym e) (posix-denoted r w),
   )
 
-  -- A line is cut differently just if its two denotations differ.
-  pub cut-denotations : CutDifferently r w ↔ ((s t : Span) → Denotes (MatchSet w r) (Greedy w r) s → Denotes (MatchSet w r) Posix t → s ≢ t)
-  cut-denotations = (
-    λ c s t p q e. c (sym (greedy-denotation s .0 p) ∙ e ∙ posix-denotation t .0 q),
-    λ h. h (greedy r w) (posix r w) (greedy-denoted r w) (posix-denoted r w),
+  -- A line is cut differently by a plain pattern just if its two denotations differ.
+  pub cut-denotations : Plain r → CutDifferently r w ↔ ((s t : Span) → Denotes (MatchSet w r) (Greedy w r) s → Denotes (MatchSet w r) Posix t → s ≢ t)
+  cut-denotations d = (
+    λ c s t p q e. c (sym (greedy-denotation d s .0 p) ∙ e ∙ posix-denotation t .0 q),
+    λ h. h (greedy r w) (posix r w) (greedy-denoted r w d) (posix-denoted r w),
   )
 
 -- Robust as the paper has it, and by the spans.
-pub robust : (n : ℕ) (r : Re) → Robust n r ↔ ((w : List ℕ) → Below n w → greedy r w ≡ posix r w)
-robust n r = (
-  λ h w b. h w b (greedy r w) (posix r w) (greedy-denoted r w) (posix-denoted r w),
-  λ h w b s t p q. (greedy-denotation r w s) .0 p ∙ h w b ∙ sym ((posix-denotation r w t) .0 q),
+pub robust : (n : ℕ) (r : Re) → Plain r → Robust n r ↔ ((w : List ℕ) → Below n w → greedy r w ≡ posix r w)
+robust n r d = (
+  λ h w b. h w b (greedy r w) (posix r w) (greedy-denoted r w d) (posix-denoted r w),
+  λ h w b s t p q. (greedy-denotation r w d s) .0 p ∙ h w b ∙ sym ((posix-denotation r w t) .0 q),
 )

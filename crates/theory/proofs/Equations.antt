@@ -2,13 +2,13 @@
 -- Assumes nothing.
 use mathlib.Core.Path.{_≡_, refl, ap}
 use Prim.Native.Nat.{ℕ, zero, suc, _-_, _≤_, _<_, max}
-use mathlib.Core.Bool.{Bool, true, false}
+use mathlib.Core.Bool.{Bool, true, false, cond}
 use mathlib.Core.List.{List, [], _∷_, _++_}
 use native.Mathlib.Omega.{arith}
 use lib.ListN.{length, drop, length-drop}
-use lib.Dec.{T, ltb→lt}
+use lib.Dec.{T, ltb, ltb→lt}
 use Rattle.theory.specs.Pattern.{Re, empty, leaf, seq, alt, star}
-use Rattle.theory.specs.Outcomes.{Outcome, endsAt, wants, andThen, when, afterTurn, thenLeave, leafOutcomes, starOutcomes, outcomes}
+use Rattle.theory.specs.Outcomes.{Outcome, endsAt, wants, andThen, when, emptyTurn, afterTurn, thenLeave, leafOutcomes, starOutcomes, outcomes}
 use Rattle.theory.proofs.Outcomes.{AllOut, none, end, wish, replace-congr, all-map, all-append, all-replace}
 use Rattle.theory.proofs.Turns.{all-thenLeave, all-afterTurn, afterTurn-congr}
 
@@ -105,3 +105,8 @@ module _ (w : List ℕ) (i : ℕ) where
       (omega (arith, ltb→lt i k t)) (omega arith))
       (λ p q. refl)
       (outcomes-all x w i)))
+
+  -- r* IN ONE EQUATION: r's list with each "ends at k" replaced by r*'s list from k if k is above i, and kept as "ends at i" if k is i; then "ends at i".
+  pub outcomes-loop : (x : Re) → outcomes (star x) w i ≡ andThen (outcomes x w i) (λ k. cond (ltb i k) (outcomes (star x) w k) (endsAt i ∷ [])) ++ (endsAt i ∷ [])
+  unfolding emptyTurn thenLeave
+  outcomes-loop x = outcomes-star x

@@ -21,6 +21,8 @@ pub mod Search
 pub mod Records
 pub mod Run
 pub mod Groups
+-- What the requested changes leave as it was.
+pub mod Unmoved
 -- Source 000's order of preference and denotations.
 pub mod Ranked
 pub mod Preference

@@ -1,4 +1,4 @@
--- Source 000's order is a strict linear order on the matches: that in which the ends first stand in the list.
+-- Source 000's order is a strict linear order on the matches: that in which the ends first stand in the list as it was before the requested changes.
 -- Assumes nothing.
 use mathlib.Core.Path.{_≡_, sym, subst, subst₂}
 use mathlib.Core.Logic.{_⊎_, inl, inr, _↔_}

@@ -1,18 +1,19 @@
--- The ends of a part's list are in source 000's order of preference.
+-- The ends of a part's list, as it was before the requested changes, are in source 000's order of preference.
 -- Assumes nothing.
 use mathlib.Core.Path.{_≡_, refl, sym, ap, subst, subst₂}
 use mathlib.Core.Logic.{_⊎_, inl, inr}
 use mathlib.Core.HLevel.{×-discrete}
 use mathlib.Core.Sum
 use Prim.Native.Nat.{ℕ, zero, suc, _-_, _<_}
-use mathlib.Core.Bool.{Bool, true, false, cond}
+use mathlib.Core.Bool.{Bool, true, false}
 use mathlib.Core.List.{List, [], _∷_, _++_, map, map-append, map-map, map-id, List-discrete, List·Memᴰ as Mem, List·Memᴰ·head as head, List·Memᴰ·tail as tail, List·Memᴰ·not-nil, List·Memᴰ·cases-cons}
 use native.Mathlib.Omega.{arith}
 use native.Mathlib.Decide.{ℕ-discrete}
 use lib.ListN.{length, drop}
 use lib.Dec.{T, eqb, eqb→eq, eqb-refl, ltb, ltb→lt, lt→ltb}
 use Rattle.theory.specs.Pattern.{Re, empty, leaf, seq, alt, star}
-use Rattle.theory.specs.Outcomes.{Outcome, endsAt, wants, andThen, when, emptyTurn, afterTurn, thenLeave, leafOutcomes, starOutcomes, outcomes}
+use Rattle.theory.specs.Outcomes.{Outcome, endsAt, wants, andThen, when, leafOutcomes, outcomes}
+use Rattle.theory.specs.Base.{baseStar, base}
 use Rattle.theory.specs.Standing.{someIs}
 use Rattle.theory.specs.Matching.{Matches}
 use Rattle.theory.specs.Preference.{ByLeast, AltWay, AltLess, left, right, left-right, SeqWay, seqEnd, SeqLess, first, second, StarWay, starEnd, StarLess, turn, rest, more, Prefer}
@@ -20,6 +21,7 @@ use Rattle.theory.proofs.Tests.{either, or-left, or-right, or-cases}
 use Rattle.theory.proofs.Equations.{outcomes-all}
 use Rattle.theory.proofs.Outcomes.{ends, some-in}
 use Rattle.theory.proofs.Matching.{ends-match, match-ends}
+use Rattle.theory.proofs.Unmoved.{base-some}
 use Rattle.theory.proofs.Ranked.{Before, each, Ranks, ranks-iff, ranks-one, ranks-when, ranks-append, ranks-map, ranks-each, flat}
 
 pub in-ends : {k : ℕ} (l : List (Outcome ℕ)) → T (someIs k l) → Mem k (ends l)
@@ -53,10 +55,9 @@ abbrev tails : (ℕ → List ℕ) → ℕ → ℕ → ℕ → List (List ℕ)
 tails f d i j = when (ltb i j) (turns f d j)
 
 -- An empty turn is no way.
-ends-turn : {C : Type 0} (i : ℕ) (ρ : C → ℕ) (l : List (Outcome ℕ)) (m : List C) (b : Bool) → ends l ≡ map ρ m → ends (cond b l (emptyTurn i)) ≡ map ρ (when b m)
-unfolding emptyTurn
-ends-turn i ρ l m true e = e
-ends-turn i ρ l m false e = refl
+ends-turn : {C : Type 0} (ρ : C → ℕ) (l : List (Outcome ℕ)) (m : List C) (b : Bool) → ends l ≡ map ρ m → ends (when b l) ≡ map ρ (when b m)
+ends-turn ρ l m true e = e
+ends-turn ρ l m false e = refl
 
 leaf-one : (p : ℕ) (s : ℕ → Bool) (i : ℕ) (l : List ℕ) (j k : ℕ) → Before j k (ends (leafOutcomes p s i l)) → Mem k (ends (leafOutcomes p s i l)) → ⊥
 leaf-one p s i [] j k h m = List·Memᴰ·not-nil m
@@ -69,14 +70,17 @@ leaf-one p s i (b ∷ l) j k h m = go (s b) h m
 module _ (w : List ℕ) where
   -- The ends of r from i.
   abbrev pub places : Re → ℕ → List ℕ
-  places r i = ends (outcomes r w i)
+  places r i = ends (base r w i)
 
   abbrev pub Ranked : Re → ℕ → Type 0
   Ranked r i = Ranks (Matches w r i) (Prefer w r i) (places r i)
 
+  as-end : (r : Re) (i k : ℕ) → Mem k (places r i) → T (someIs k (outcomes r w i))
+  as-end r i k m = rw (base-some r w i k) (of-ends (base r w i) m)
+
   -- Sound and complete is known (`ends-are-matches`).
   ranked : {r : Re} {i : ℕ} → ((j k : ℕ) → Before j k (places r i) → Mem k (places r i) → Prefer w r i j k) → Ranked r i
-  ranked {r} {i} h = record { sound = λ k m. ends-match w r i k (of-ends (outcomes r w i) m); complete = λ k m. in-ends (outcomes r w i) (match-ends w m); sorted = h }
+  ranked {r} {i} h = record { sound = λ k m. ends-match w r i k (as-end r i k m); complete = λ k m. in-ends (base r w i) (rw (base-some r w i k) at (match-ends w m)); sorted = h }
 
   -- .. and from ways in order.
   by-ways : {A : Type 0} {In : A → Type 0} {Less : A → A → Type 0} {ρ : A → ℕ} {L : List A} {l : List ℕ}
@@ -100,11 +104,11 @@ module _ (w : List ℕ) where
         (ranks-each (λ j k. (j, k)) (places y) ℕ-discrete (λ j k c d e. (ap (λ a. a .0) e, ap (λ a. a .1) e)) (λ j k c d l. first l) (λ j c d l. second l) p (λ j m. q j))
 
   module _ (x : Re) where
-    turns-ends : (d i : ℕ) → ends (starOutcomes (outcomes x w) d i) ≡ map (starEnd i) (turns (places x) d i)
-    unfolding starOutcomes turns emptyTurn thenLeave
+    turns-ends : (d i : ℕ) → ends (baseStar (base x w) d i) ≡ map (starEnd i) (turns (places x) d i)
+    unfolding baseStar turns
     turns-ends zero i = refl
     turns-ends (suc d) i =
-        rw (ends-append, ends-then _∷_ (tails (places x) d i) (starEnd i) (λ k. afterTurn i k (starOutcomes (outcomes x w) d k)) (λ k. ends-turn i (starEnd k) (starOutcomes (outcomes x w) d k) (turns (places x) d k) (ltb i k) (turns-ends d k)) (outcomes x w i), map-append)
+        rw (ends-append, ends-then _∷_ (tails (places x) d i) (starEnd i) (λ k. when (ltb i k) (baseStar (base x w) d k)) (λ k. ends-turn (starEnd k) (baseStar (base x w) d k) (turns (places x) d k) (ltb i k) (turns-ends d k)) (base x w i), map-append)
 
     star-ways : ((i : ℕ) → Ranked x i) → (d i : ℕ) → length w - i < d → Ranks (StarWay w x i) (StarLess (Prefer w x) i) (turns (places x) d i)
     unfolding turns
@@ -114,7 +118,7 @@ module _ (w : List ℕ) where
         (ranks-append
         (ranks-each _∷_ (tails (places x) d i) ℕ-discrete (λ j k s t e. (cc, cc)) (λ j k s t l. turn l) (λ j s t l. rest l) (p i)
         (λ j m.
-        let b = some-in (outcomes-all x w i) j (of-ends (outcomes x w i) m) in
+        let b = some-in (outcomes-all x w i) j (as-end x i j m) in
         ranks-when (ltb i j) (ltb→lt i j) (lt→ltb i j) (λ l. star-ways p d j (omega arith))))
         (ranks-one [])
         (λ a b (j, s, m, n, e) f. subst₂ (StarLess (Prefer w x) i) (sym e) (sym f) more))
@@ -125,7 +129,7 @@ module _ (w : List ℕ) where
 
   -- THE ENDS ARE IN THE ORDER OF PREFERENCE.
   pub in-order : (r : Re) (i : ℕ) → Ranked r i
-  unfolding outcomes Prefer
+  unfolding base Prefer
   in-order empty i = ranked {r = empty} (ranks-one i .sorted)
   in-order (leaf p s) i = ranked {r = leaf p s} (leaf-one p s i (drop i w))
   in-order (alt x y) i =
@@ -133,5 +137,5 @@ module _ (w : List ℕ) where
   in-order (seq x y) i =
       ranked {r = seq x y}
       (by-ways (×-discrete ℕ-discrete ℕ-discrete) (seq-ways x y i (in-order x i) (in-order y))
-      (ends-then (λ j k. (j, k)) (places y) seqEnd (outcomes y w) (λ k. sym (map-id (places y k))) (outcomes x w i)))
+      (ends-then (λ j k. (j, k)) (places y) seqEnd (base y w) (λ k. sym (map-id (places y k))) (base x w i)))
   in-order (star x) i = ranked {r = star x} (by-ways (List-discrete ℕ-discrete) (star-ways x (in-order x) (suc (length w)) i (omega arith)) (turns-ends x (suc (length w)) i))

@@ -1,4 +1,4 @@
--- Laws of tests: a Bool that is true is a fact, and the facts of `||`.
+-- Laws of tests: a Bool that is true is a fact, and the facts of `||` and `&&`.
 -- Assumes nothing.
 use mathlib.Core.Path.{_≡_, refl, sym}
 use mathlib.Core.Logic.{_⊎_, inl, inr}
@@ -48,6 +48,14 @@ and-true false = refl
 pub and-false : (a : Bool) → a && false ≡ false
 and-false true = refl
 and-false false = refl
+
+pub and-split : (a b : Bool) → T (a && b) → T a × T b
+and-split true b t = (tt, t)
+and-split false b t = absurd t
+
+pub and-join : (a b : Bool) → T a → T b → T (a && b)
+and-join true b s t = t
+and-join false b s t = s
 
 pub either : {A B C : Type 0} → (A → C) → (B → C) → A ⊎ B → C
 either f g (inl a) = f a

@@ -1,13 +1,13 @@
 -- The laws of r*'s two choices: what an empty turn leaves in the list, and where the end without a turn stands.
 -- The other laws of the order of preference look into neither, so that either may change here alone.
 -- Assumes nothing.
-use mathlib.Core.Path.{_≡_, refl}
+use mathlib.Core.Path.{_≡_, refl, ap}
 use mathlib.Core.Logic.{_⊎_, inl, inr}
 use Prim.Native.Nat.{ℕ}
 use mathlib.Core.Bool.{Bool, true, false, cond}
-use mathlib.Core.List.{List, [], _∷_}
+use mathlib.Core.List.{List, [], _∷_, List·Memᴰ as Mem, List·Memᴰ·head as head, List·Memᴰ·append-cases, List·Memᴰ·eq-of-singleton, Memᴰ·append-left, Memᴰ·append-right}
 use lib.Dec.{T, eqb, eqb→eq, eqb-refl, ltb}
-use Rattle.theory.specs.Outcomes.{Outcome, endsAt, replace, emptyTurn, afterTurn, thenLeave}
+use Rattle.theory.specs.Outcomes.{Outcome, endsAt, wants, replace, andThen, emptyTurn, afterTurn, thenLeave}
 use Rattle.theory.specs.Standing.{someIs}
 use Rattle.theory.proofs.Tests.{or-left, or-cases, either}
 use Rattle.theory.proofs.Outcomes.{AllOut, none, end, replace-append, all-append, some-in, some-cases, some-left, some-right}
@@ -15,7 +15,7 @@ use Rattle.theory.proofs.Outcomes.{AllOut, none, end, replace-append, a
 module _ {K : Type 0} {P : K → Type 0} {Q : ℕ → Type 0} where
   pub all-emptyTurn : (i : K) → P i → AllOut P Q (emptyTurn i)
   unfolding emptyTurn
-  all-emptyTurn i h = none
+  all-emptyTurn i h = end h none
 
   pub all-thenLeave : {l : List (Outcome K)} (i : K) → AllOut P Q l → P i → AllOut P Q (thenLeave l i)
   unfolding thenLeave
@@ -30,6 +30,13 @@ module _ {K L : Type 0} (h : K → L) (g : ℕ → List (Outcome L)) where
   pub replace-thenLeave : (l : List (Outcome K)) (i : K) → replace (λ k. endsAt (h k) ∷ []) g (thenLeave l i) ≡ thenLeave (replace (λ k. endsAt (h k) ∷ []) g l) (h i)
   unfolding thenLeave
   replace-thenLeave l i = replace-append (λ k. endsAt (h k) ∷ []) g l (endsAt i ∷ [])
+
+-- A list whose ends are taken for empty turns is itself.
+pub andThen-emptyTurn : {K : Type 0} (l : List (Outcome K)) → andThen l emptyTurn ≡ l
+unfolding emptyTurn
+andThen-emptyTurn [] = refl
+andThen-emptyTurn (endsAt k ∷ l) = ap (λ m. endsAt k ∷ m) (andThen-emptyTurn l)
+andThen-emptyTurn (wants p ∷ l) = ap (λ m. wants p ∷ m) (andThen-emptyTurn l)
 
 -- The ends of r* are those of its turns, and i.
 pub some-leave : (i : ℕ) (l : List (Outcome ℕ)) → T (someIs i (thenLeave l i))
@@ -77,3 +84,31 @@ some-afterTurn i k j l = go (ltb i k)
     go : (t : Bool) → T (someIs j (cond t l (emptyTurn i))) → (T t × T (someIs j l)) ⊎ (i ≡ j)
     go true m = inl (tt, m)
     go false m = inr (some-emptyTurn i j m)
+
+-- The outcomes of r* are those of its turns, and "ends at i"; those of a turn that ends at k are those of r* from k, or "ends at i".
+pub in-thenLeave : {o : Outcome ℕ} (i : ℕ) (l : List (Outcome ℕ)) → Mem o (thenLeave l i) → Mem o l ⊎ (o ≡ endsAt i)
+unfolding thenLeave
+in-thenLeave i l m = either inl (λ t. inr (List·Memᴰ·eq-of-singleton t)) (List·Memᴰ·append-cases l m)
+
+pub of-turns : {o : Outcome ℕ} {l : List (Outcome ℕ)} (i : ℕ) → Mem o l → Mem o (thenLeave l i)
+unfolding thenLeave
+of-turns i m = Memᴰ·append-left (endsAt i ∷ []) m
+
+pub of-leave : {o : Outcome ℕ} (i : ℕ) (l : List (Outcome ℕ)) → o ≡ endsAt i → Mem o (thenLeave l i)
+unfolding thenLeave
+of-leave i l e = Memᴰ·append-right l (head e)
+
+pub in-afterTurn : {o : Outcome ℕ} {l : List (Outcome ℕ)} (i k : ℕ) → Mem o (afterTurn i k l) → (T (ltb i k) × Mem o l) ⊎ (o ≡ endsAt i)
+unfolding emptyTurn
+in-afterTurn {o} {l} i k = go (ltb i k)
+  where
+    go : (t : Bool) → Mem o (cond t l (emptyTurn i)) → (T t × Mem o l) ⊎ (o ≡ endsAt i)
+    go true m = inl (tt, m)
+    go false m = inr (List·Memᴰ·eq-of-singleton m)
+
+pub of-afterTurn : {o : Outcome ℕ} {l : List (Outcome ℕ)} (i k : ℕ) → T (ltb i k) → Mem o l → Mem o (afterTurn i k l)
+of-afterTurn {o} {l} i k = go (ltb i k)
+  where
+    go : (t : Bool) → T t → Mem o l → Mem o (cond t l (emptyTurn i))
+    go true c m = m
+    go false c m = absurd c

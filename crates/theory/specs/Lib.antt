@@ -7,6 +7,7 @@ pub mod Spans
 pub mod Standing
 pub mod Lines
 pub mod Records
+pub mod Base
 pub mod Preference
 pub mod Demand
 pub mod Code

@@ -34,9 +34,9 @@ abbrev pub leafOutcomes : ℕ → (ℕ → Bool) → ℕ → List ℕ → List (
 leafOutcomes p s i [] = want p
 leafOutcomes p s i (b ∷ rest) = when (s b) (endsAt (suc i) ∷ [])
 
--- r*, a turn of r that is empty: its "ends at i" is "dropped if k is i".
+-- r*, a turn of r that is empty: its "ends at i" "is no longer dropped: it stays, in its place, as the repeat's end" (request 1).
 unfoldable pub emptyTurn : {K : Type 0} → K → List (Outcome K)
-emptyTurn i = []
+emptyTurn i = endsAt i ∷ []
 
 -- r*, a turn of r that ends at k: goes on by "r*'s list from k if k is above i".
 abbrev pub afterTurn : ℕ → ℕ → List (Outcome ℕ) → List (Outcome ℕ)
@@ -52,6 +52,10 @@ starOutcomes f zero i = []
 starOutcomes f (suc n) i = thenLeave (andThen (f i) (λ k. afterTurn i k (starOutcomes f n k))) i
 
 -- "For a part and a place i in the line it has a list of outcomes."
+abbrev pub Lists : Type 0
+Lists = Re → List ℕ → ℕ → List (Outcome ℕ)
+
+-- The lists that everything is judged by.
 unfoldable pub outcomes : Re → List ℕ → ℕ → List (Outcome ℕ)
 outcomes empty w i = endsAt i ∷ []
 outcomes (leaf p s) w i = leafOutcomes p s i (drop i w)

@@ -6,7 +6,7 @@ use mathlib.Core.List.{List, [], _∷_}
 use mathlib.Core.Option.{Option, none, some}
 use lib.ListN.{length}
 use Rattle.theory.specs.Pattern.{Re}
-use Rattle.theory.specs.Outcomes.{Outcome, endsAt, wants, outcomes}
+use Rattle.theory.specs.Outcomes.{Outcome, endsAt, wants, Lists, outcomes}
 
 -- "The greedy end is the first in the list."
 abbrev pub firstEnd : List (Outcome ℕ) → Option ℕ
@@ -39,13 +39,20 @@ abbrev pub leftmost : (ℕ → Option ℕ) → ℕ → ℕ → Span
 leftmost e zero i = nowhere
 leftmost e (suc d) i = spanOr i (e i) (leftmost e d (suc i))
 
--- The "greedy span". "Starts run from 0 to the line's length, that included."
-unfoldable pub greedy : Re → List ℕ → Span
-greedy r w = leftmost (λ i. firstEnd (outcomes r w i)) (suc (length w)) 0
+-- The "greedy span", judged by the lists l. "Starts run from 0 to the line's length, that included."
+abbrev pub greedyBy : Lists → Re → List ℕ → Span
+greedyBy l r w = leftmost (λ i. firstEnd (l r w i)) (suc (length w)) 0
 
 -- The "POSIX span".
+abbrev pub posixBy : Lists → Re → List ℕ → Span
+posixBy l r w = leftmost (λ i. greatestEnd (l r w i)) (suc (length w)) 0
+
+-- Both, judged by the order of preference.
+unfoldable pub greedy : Re → List ℕ → Span
+greedy r w = greedyBy outcomes r w
+
 unfoldable pub posix : Re → List ℕ → Span
-posix r w = leftmost (λ i. greatestEnd (outcomes r w i)) (suc (length w)) 0
+posix r w = posixBy outcomes r w
 
 -- "A line is cut differently if its two spans differ."
 abbrev pub CutDifferently : Re → List ℕ → Type 0

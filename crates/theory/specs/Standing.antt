@@ -6,7 +6,7 @@ use mathlib.Core.List.{List, [], _∷_, _++_}
 use lib.ListN.{length}
 use lib.Dec.{eqb}
 use Rattle.theory.specs.Pattern.{Re, count}
-use Rattle.theory.specs.Outcomes.{Outcome, endsAt, wants, outcomes}
+use Rattle.theory.specs.Outcomes.{Outcome, endsAt, wants, Lists, outcomes}
 
 -- "The wanted leaves before the first end (all of them if there is no end)."
 abbrev pub fronts : {K : Type 0} → List (Outcome K) → List ℕ
@@ -64,15 +64,19 @@ pub record Standing : Type 0 where
   pub all : List ℕ  -- (c)
   pub some : Bool  -- (d)
 
--- "The standing of a line."
-unfoldable pub standing : Re → List ℕ → Standing
-standing r w =
+-- "The standing of a line", judged by the lists l,
+abbrev pub standingBy : Lists → Re → List ℕ → Standing
+standingBy l r w =
     record {
-      order = once (fronts (outcomes r w 0));
-      first = firstIs (length w) (outcomes r w 0);
-      all = setOf r (wanted (outcomes r w 0));
-      some = someIs (length w) (outcomes r w 0);
+      order = once (fronts (l r w 0));
+      first = firstIs (length w) (l r w 0);
+      all = setOf r (wanted (l r w 0));
+      some = someIs (length w) (l r w 0);
     }
+
+-- and by the order of preference.
+unfoldable pub standing : Re → List ℕ → Standing
+standing r w = standingBy outcomes r w
 
 -- "A line with (d) and without (b) is a witness."
 abbrev pub isWitness : Standing → Bool

@@ -43,7 +43,7 @@ abbrev short-first : Re
 short-first = alt (leaf 0 (eqb 97)) (seq (leaf 1 (eqb 97)) (leaf 2 (eqb 98)))
 
 -- The record of ab comes from that of a, number 2, by byte 98.
-pub from-origin : recordOf short-first ([] ∷ (0 ∷ []) ∷ (97 ∷ []) ∷ (97 ∷ 98 ∷ []) ∷ []) (97 ∷ 98 ∷ []) ≡ (0 ∷ 128 ∷ replicate 9 0) ++ (2 ∷ 98 ∷ replicate 51 0)
+pub from-origin : recordOf (standing short-first) ([] ∷ (0 ∷ []) ∷ (97 ∷ []) ∷ (97 ∷ 98 ∷ []) ∷ []) (97 ∷ 98 ∷ []) ≡ (0 ∷ 128 ∷ replicate 9 0) ++ (2 ∷ 98 ∷ replicate 51 0)
 unfolding recordBytes recordBits bits pack standing outcomes count numberOf same
 from-origin = refl
 
@@ -54,19 +54,19 @@ one-line = [] ∷ []
 abbrev shows : Whole → Result
 shows (whole x t v) = x
 
-pub slots-enough : shows (due short-first (replicate 70 170) (7 ∷ []) one-line none) ≡ alike 1
+pub slots-enough : shows (due (standing short-first) (replicate 70 170) (7 ∷ []) one-line none) ≡ alike 1
 unfolding slots
 slots-enough = refl
 
-pub slots-short : shows (due short-first (replicate 63 170) (7 ∷ []) one-line none) ≡ refused 10 0
+pub slots-short : shows (due (standing short-first) (replicate 63 170) (7 ∷ []) one-line none) ≡ refused 10 0
 unfolding slots
 slots-short = refl
 
-pub buffer-enough : shows (due short-first (replicate 64 170) (7 ∷ 8 ∷ []) one-line (some (1 ∷ 2 ∷ []))) ≡ unlike 1 2
+pub buffer-enough : shows (due (standing short-first) (replicate 64 170) (7 ∷ 8 ∷ []) one-line (some (1 ∷ 2 ∷ []))) ≡ unlike 1 2
 unfolding slots
 buffer-enough = refl
 
-pub buffer-short : shows (due short-first (replicate 64 170) (7 ∷ 8 ∷ []) one-line (some (1 ∷ 2 ∷ 3 ∷ []))) ≡ refused 11 0
+pub buffer-short : shows (due (standing short-first) (replicate 64 170) (7 ∷ 8 ∷ []) one-line (some (1 ∷ 2 ∷ 3 ∷ []))) ≡ refused 11 0
 unfolding slots
 buffer-short = refl
 
@@ -74,11 +74,11 @@ buffer-short = refl
 abbrev buffer : Whole → List ℕ
 buffer (whole x t v) = v
 
-pub buffer-kept-on-10 : buffer (due short-first (replicate 63 170) (7 ∷ []) one-line none) ≡ 7 ∷ []
+pub buffer-kept-on-10 : buffer (due (standing short-first) (replicate 63 170) (7 ∷ []) one-line none) ≡ 7 ∷ []
 unfolding slots
 buffer-kept-on-10 = refl
 
-pub buffer-kept-on-11 : buffer (due short-first (replicate 64 170) (7 ∷ 8 ∷ []) one-line (some (1 ∷ 2 ∷ 3 ∷ []))) ≡ 7 ∷ 8 ∷ []
+pub buffer-kept-on-11 : buffer (due (standing short-first) (replicate 64 170) (7 ∷ 8 ∷ []) one-line (some (1 ∷ 2 ∷ 3 ∷ []))) ≡ 7 ∷ 8 ∷ []
 unfolding slots
 buffer-kept-on-11 = refl
 

@@ -29,14 +29,14 @@ use Rattle.verdict.proofs.Finite.{settled}
 
 module _ (r : Re) where
   -- The first n records.
-  module _ {L : List (List ℕ)} (a : Records r L) (n : ℕ) (h : n ≤ length L) where
+  module _ {L : List (List ℕ)} (a : Records (standing r) L) (n : ℕ) (h : n ≤ length L) where
     size : length (take n L) ≡ n
     size = length-take-le n L h
 
     old : (k : ℕ) → k < n → at (take n L) k ≡ at L k
     old k l = getD-take n L k [] l
 
-    pub first-records : Records r (take n L)
+    pub first-records : Records (standing r) (take n L)
     first-records =
         record {
           bytes = λ k l. let i : k < n = omega (arith, size) in rw (old k i) (a .bytes k (omega arith));
@@ -49,7 +49,7 @@ module _ (r : Re) where
               a .fresh j k o (omega arith) (ap (standing r) (sym (old j (omega arith))) ∙ e ∙ ap (standing r) (old k i));
         }
 
-    pub first-table : recordsOf r L (take n L) ≡ records r (take n L)
+    pub first-table : recordsOf (standing r) L (take n L) ≡ records (standing r) (take n L)
     first-table =
         recordsOf-same r L (take n L) (take n L) λ k l.
         let (j, i, e) = origin-at r first-records k l in
@@ -121,22 +121,22 @@ witnessOf (alike-of L) = none
 witnessOf (unlike-of L w) = some w
 witnessOf (full-of L) = none
 
-outcome : {r : Re} {L : List (List ℕ)} {w : Option (List ℕ)} (n : ℕ) → length L ≤ n → Needs r L w → SearchEnd r n
-outcome n h (all-records {L = L} a) = SearchEnd.alike L h a
-outcome n h (up-to-witness L w a) = SearchEnd.unlike L w (omega (arith, snoc-size L w)) a
+outcome : (r : Re) {L : List (List ℕ)} {w : Option (List ℕ)} (n : ℕ) → length L ≤ n → Needs (standing r) L w → SearchEnd r n
+outcome r n h (all-records {L = L} a) = SearchEnd.alike L h a
+outcome r n h (up-to-witness L w a) = SearchEnd.unlike L w (omega (arith, snoc-size L w)) a
 
-outcome-shows : {r : Re} {L : List (List ℕ)} {w : Option (List ℕ)} (n : ℕ) (h : length L ≤ n) (x : Needs r L w) → (linesOf (show (outcome n h x)) ≡ L) × (witnessOf (show (outcome n h x)) ≡ w)
+outcome-shows : (r : Re) {L : List (List ℕ)} {w : Option (List ℕ)} (n : ℕ) (h : length L ≤ n) (x : Needs (standing r) L w) → (linesOf (show (outcome r n h x)) ≡ L) × (witnessOf (show (outcome r n h x)) ≡ w)
 unfolding linesOf witnessOf outcome
-outcome-shows n h (all-records a) = (refl, refl)
-outcome-shows n h (up-to-witness L w a) = (refl, refl)
+outcome-shows r n h (all-records a) = (refl, refl)
+outcome-shows r n h (up-to-witness L w a) = (refl, refl)
 
-pub needs-one : {r : Re} {L M : List (List ℕ)} {w u : Option (List ℕ)} → Numbered 0 r → Needs r L w → Needs r M u → (L ≡ M) × (w ≡ u)
-needs-one {r} {L} {M} d x y =
+pub needs-one : (r : Re) {L M : List (List ℕ)} {w u : Option (List ℕ)} → Numbered 0 r → Needs (standing r) L w → Needs (standing r) M u → (L ≡ M) × (w ≡ u)
+needs-one r {L} {M} d x y =
     let n = length L + length M in
     let h : length L ≤ n = omega arith in
     let g : length M ≤ n = omega arith in
-    let e = same-outcome r d (outcome n h x) (outcome n g y) in
-    (sym (outcome-shows n h x .0) ∙ ap linesOf e ∙ outcome-shows n g y .0, sym (outcome-shows n h x .1) ∙ ap witnessOf e ∙ outcome-shows n g y .1)
+    let e = same-outcome r d (outcome r n h x) (outcome r n g y) in
+    (sym (outcome-shows r n h x .0) ∙ ap linesOf e ∙ outcome-shows r n g y .0, sym (outcome-shows r n h x .1) ∙ ap witnessOf e ∙ outcome-shows r n g y .1)
 
-pub needs-some : (r : Re) → Numbered 0 r → (L : List (List ℕ)) × (w : Option (List ℕ)) × Needs r L w
+pub needs-some : (r : Re) → Numbered 0 r → (L : List (List ℕ)) × (w : Option (List ℕ)) × Needs (standing r) L w
 needs-some r d = either (λ c. (c .0, none, all-records (c .1))) (λ c. (c .0 ++ (c .1 ∷ []), some (c .1), up-to-witness (c .0) (c .1) (c .2))) (settled r d)

@@ -9,6 +9,7 @@ use lib.ListN.{length, take, drop}
 use Rattle.theory.specs.Pattern.{Re}
 use Rattle.theory.specs.Spans.{Span-discrete, greedy, posix}
 use Rattle.theory.specs.Lines.{Below}
+use Rattle.theory.specs.Base.{Plain}
 use Rattle.theory.specs.Preference.{Robust}
 use Rattle.theory.proofs.Denotation.{robust}
 use Rattle.theory.proofs.Tests.{either}
@@ -27,11 +28,11 @@ use Rattle.verdict.proofs.StayBytes.{stay-bytes}
 pub checked-is : {p t v : List ℕ} {z : Whole} → Checked p t v z → (y : Whole) → Checked p t v y ↔ (y ≡ z)
 checked-is {p} {t} {v} c y = (λ d. checked-one d c, λ e. subst (Checked p t v) (sym e) c)
 
--- NO LINE IS CUT DIFFERENTLY exactly if the pattern is robust, by source 000's Definition 4.
-pub none-robust : (r : Re) → NoneCut r ↔ Robust 256 r
-none-robust r = (
-  λ f. robust 256 r .1 λ w b. elim (Span-discrete ℕ-discrete (greedy r w) (posix r w)) [ yes e ↦ e | no e ↦ absurd (f w b e) ],
-  λ h w b c. c (robust 256 r .0 h w b),
+-- NO LINE IS CUT DIFFERENTLY exactly if the pattern, a plain one, is robust by source 000's Definition 4.
+pub none-robust : (r : Re) → Plain r → NoneCut r ↔ Robust 256 r
+none-robust r d = (
+  λ f. robust 256 r d .1 λ w b. elim (Span-discrete ℕ-discrete (greedy r w) (posix r w)) [ yes e ↦ e | no e ↦ absurd (f w b e) ],
+  λ h w b c. c (robust 256 r d .0 h w b),
 )
 
 -- It is refused with that number at place 0.

@@ -156,17 +156,17 @@ module _ (r : Re) (d : Numbered 0 r) where
       λ i. record { order = e1 i; first = e2 i; all = e3 i; some = e4 i }
 
   -- THERE ARE NO MORE RECORDS THAN THAT,
-  pub bounded : {L : List (List ℕ)} → Records r L → length L ≤ bound
+  pub bounded : {L : List (List ℕ)} → Records (standing r) L → length L ≤ bound
   bounded {L} a =
       pigeons bound (λ k. k) (λ k. standing-code (standing r (at L k))) (length L)
       (λ k l. (standing-code (standing r (at L k)), code-bound (at L k), refl))
       (λ j k o l e. a .fresh j k o l (code-standing (at L j) (at L k) e))
 
   -- so the records of a pattern are all there, or go up to the first witness's.
-  pub settled : ((L : List (List ℕ)) × Alike r L) ⊎ ((L : List (List ℕ)) × (w : List ℕ) × Unlike r L w)
+  pub settled : ((L : List (List ℕ)) × Alike (standing r) L) ⊎ ((L : List (List ℕ)) × (w : List ℕ) × Unlike (standing r) L w)
   settled = go (check r d (suc bound))
     where
-      go : SearchEnd r (suc bound) → ((L : List (List ℕ)) × Alike r L) ⊎ ((L : List (List ℕ)) × (w : List ℕ) × Unlike r L w)
+      go : SearchEnd r (suc bound) → ((L : List (List ℕ)) × Alike (standing r) L) ⊎ ((L : List (List ℕ)) × (w : List ℕ) × Unlike (standing r) L w)
       go (alike L h a) = inl (L, a)
       go (unlike L w h a) = inr (L, w, a)
       go (full L h a) = absurd (let c = bounded (a .records) in omega arith)

@@ -10,6 +10,7 @@ use native.Mathlib.Decide.{decLt}
 use lib.ListN.{length}
 use lib.Dec.{ltb, ltb→lt, lt→ltb}
 use Rattle.theory.specs.Pattern.{Re}
+use Rattle.theory.specs.Standing.{standing}
 use Rattle.theory.specs.Code.Search.{SearchEnd, alike, unlike, full}
 use Rattle.theory.proofs.Run.{check}
 use Rattle.theory.proofs.Tests.{T-true, not-true}
@@ -37,12 +38,12 @@ witness (whole x t v) = v
 
 -- What an outcome's lines make of the buffers.
 abbrev pub answer : Re → List ℕ → List ℕ → Shown → Whole
-answer r t v (alike-of L) = whole (same (length L)) (onto t (records r L)) v
+answer r t v (alike-of L) = whole (same (length L)) (onto t (records (standing r) L)) v
 answer r t v (unlike-of L w) =
     cond (ltb (length v) (length w))
-    (whole (refuse 11 0) (onto t (records r (L ++ (w ∷ [])))) v)
-    (whole (differ (suc (length L)) (length w)) (onto t (records r (L ++ (w ∷ [])))) (onto v w))
-answer r t v (full-of L) = whole (refuse 10 0) (onto t (records r L)) v
+    (whole (refuse 11 0) (onto t (records (standing r) (L ++ (w ∷ [])))) v)
+    (whole (differ (suc (length L)) (length w)) (onto t (records (standing r) (L ++ (w ∷ [])))) (onto v w))
+answer r t v (full-of L) = whole (refuse 10 0) (onto t (records (standing r) L)) v
 
 -- The search's outcome for a tree, and the whole answer, computed.
 abbrev pub searched : List ℕ → Alternation → Shown

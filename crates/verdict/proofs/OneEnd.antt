@@ -28,14 +28,14 @@ show (full L h a) = full-of L
 
 module _ (r : Re) (d : Numbered 0 r) where
   -- Where two lists of records both have a line, it is one.
-  pub common : {L M : List (List ℕ)} → Records r L → Records r M → (k : ℕ) → k < length L → k < length M → at L k ≡ at M k
+  pub common : {L M : List (List ℕ)} → Records (standing r) L → Records (standing r) M → (k : ℕ) → k < length L → k < length M → at L k ≡ at M k
   common a b k l m = unique r d a b (suc k) k (omega arith) l m
 
-  pub agree : {L M : List (List ℕ)} → Records r L → Records r M → length L ≡ length M → L ≡ M
+  pub agree : {L M : List (List ℕ)} → Records (standing r) L → Records (standing r) M → length L ≡ length M → L ≡ M
   agree {L} {M} a b e = ext-getD [] L M e λ k l. common a b k l (omega arith)
 
   -- A complete list is the longest.
-  pub longest : {L M : List (List ℕ)} → Records r L → Complete r L → Records r M → length M ≤ length L
+  pub longest : {L M : List (List ℕ)} → Records (standing r) L → Complete (standing r) L → Records (standing r) M → length M ≤ length L
   longest {L} {M} a c b =
       elim (decLt (length L) (length M)) [
         | no h ↦ omega arith
@@ -44,7 +44,7 @@ module _ (r : Re) (d : Numbered 0 r) where
       ]
 
   -- No witness is before the first.
-  pub no-earlier : {L M : List (List ℕ)} {w : List ℕ} → Unlike r L w → Records r M → length L < length M → ((k : ℕ) → k < length M → T (isWitness (standing r (at M k))) → ⊥) → ⊥
+  pub no-earlier : {L M : List (List ℕ)} {w : List ℕ} → Unlike (standing r) L w → Records (standing r) M → length L < length M → ((k : ℕ) → k < length M → T (isWitness (standing r (at M k))) → ⊥) → ⊥
   no-earlier {L} {M} {w} u b h none =
       let e : at M (length L) ≡ w = sym (common (u .records) b (length L) (omega (arith, snoc-size L w)) h) ∙ snoc-last L w in
       none (length L) h (rw e (u .witness))
@@ -52,18 +52,18 @@ module _ (r : Re) (d : Numbered 0 r) where
   abbrev pub Same : {n : ℕ} → SearchEnd r n → SearchEnd r n → Type 0
   Same x y = show x ≡ show y
 
-  pub alike-unlike : {L M : List (List ℕ)} {w : List ℕ} → Alike r L → Unlike r M w → ⊥
+  pub alike-unlike : {L M : List (List ℕ)} {w : List ℕ} → Alike (standing r) L → Unlike (standing r) M w → ⊥
   alike-unlike {L} {M} {w} a u =
       let h = longest (a .records) (a .complete) (u .records) in
       no-earlier u (a .records) (omega (arith, snoc-size M w)) (a .none)
 
-  pub alike-full : {L M : List (List ℕ)} → Alike r L → Full r M → length L ≤ length M → ⊥
+  pub alike-full : {L M : List (List ℕ)} → Alike (standing r) L → Full r M → length L ≤ length M → ⊥
   alike-full {L} {M} a f h =
       let (v, b, m) = f .more in
       let (k, l, e) = a .complete v b in
       m k (omega arith) (ap (standing r) (sym (common (a .records) (f .records) k l (omega arith))) ∙ e)
 
-  same-witness : {L M : List (List ℕ)} {w u : List ℕ} → Unlike r L w → Unlike r M u → length L ≡ length M → (L ≡ M) × (w ≡ u)
+  same-witness : {L M : List (List ℕ)} {w u : List ℕ} → Unlike (standing r) L w → Unlike (standing r) M u → length L ≡ length M → (L ≡ M) × (w ≡ u)
   same-witness {L} {M} {w} {u} a b e =
       let whole : L ++ (w ∷ []) ≡ M ++ (u ∷ []) = agree (a .records) (b .records) (omega (arith, snoc-size L w, snoc-size M u)) in (
         sym (take-append-seam L (w ∷ [])) ∙ ap (take (length L)) whole ∙ ap (λ k. take k (M ++ (u ∷ []))) e ∙ take-append-seam M (u ∷ []),
@@ -88,7 +88,7 @@ module _ (r : Re) (d : Numbered 0 r) where
         ]
       ]
     where
-      no-earlier′ : {L M : List (List ℕ)} {w u : List ℕ} → Unlike r L w → Unlike r M u → length L < length M → ⊥
+      no-earlier′ : {L M : List (List ℕ)} {w u : List ℕ} → Unlike (standing r) L w → Unlike (standing r) M u → length L < length M → ⊥
       no-earlier′ {L} {M} {w} {u} a b i =
           let e : at M (length L) ≡ w = sym (snoc-old M u (length L) i) ∙ sym (common (a .records) (b .records) (length L) (omega (arith, snoc-size L w)) (omega (arith, snoc-size M u))) ∙ snoc-last L w in
           b .none (length L) i (rw e (a .witness))

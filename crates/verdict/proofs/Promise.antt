@@ -8,6 +8,7 @@ use native.Mathlib.Omega.{arith}
 use lib.ListN.{length, take, drop}
 use lib.Seq.{take-append-seam, drop-append-seam}
 use Rattle.theory.specs.Pattern.{Re}
+use Rattle.theory.specs.Standing.{standing}
 use Rattle.theory.specs.Code.Search.{SearchEnd, alike, unlike, full}
 use Rattle.theory.proofs.Run.{check}
 use Rattle.theory.proofs.Tests.{either}
@@ -47,8 +48,8 @@ fault-number (tooHeavy h t w i e j k f) = omega arith
 abbrev pub Refused : List ℕ → List ℕ → List ℕ → ℕ → Type 0
 Refused p t v n = (t′ v′ : List ℕ) × Found p t v (refuse n 0) t′ v′
 
-fits : (t : List ℕ) (r : Re) (L : List (List ℕ)) → length L ≤ slots (length t) → length (onto t (records r L)) ≡ length t
-fits t r L h = onto-length t (records r L) (omega (arith, records-size r L L, slots-fit (length t)))
+fits : (t : List ℕ) (r : Re) (L : List (List ℕ)) → length L ≤ slots (length t) → length (onto t (records (standing r) L)) ≡ length t
+fits t r L h = onto-length t (records (standing r) L) (omega (arith, records-size r L L, slots-fit (length t)))
 
 module _ {p t v : List ℕ} where
   -- Alike: no sequence of bytes of any length is cut differently, and the count is the number of distinct standings.
@@ -96,7 +97,7 @@ module _ {p t v : List ℕ} where
         go : SearchEnd (writeOut a) (slots (length t)) → Refused p t v 10
         go (alike L h c) = absurd (enough (writeOut a) (writeOut-numbered a) (alike-number (writeOut a) (writeOut-numbered a) c) h o)
         go (unlike L w h c) = absurd (enough (writeOut a) (writeOut-numbered a) (unlike-number (writeOut a) (writeOut-numbered a) c) h o)
-        go (full L h c) = (onto t (records (writeOut a) L), v, no-slot i c h refl refl refl)
+        go (full L h c) = (onto t (records (standing (writeOut a)) L), v, no-slot i c h refl refl refl)
 
     pub ten : Refused p t v 10 ↔ Outnumber (writeOut a) (slots (length t))
     ten = (ten-only, ten-if)
@@ -119,8 +120,8 @@ module _ {p t v : List ℕ} where
         go (alike L h b) = absurd (alike-none (writeOut a) (writeOut-numbered a) b w (c .bytes) (c .cut))
         go (unlike L u h b) =
             let e = first-unique (writeOut a) (writeOut-numbered a) c (first-cut (writeOut a) (writeOut-numbered a) b) in
-            inr (onto t (records (writeOut a) (L ++ (u ∷ []))), v, no-room i b h (omega (arith, ap length e)) refl refl refl)
-        go (full L h b) = inl (onto t (records (writeOut a) L), v, no-slot i b h refl refl refl)
+            inr (onto t (records (standing (writeOut a)) (L ++ (u ∷ []))), v, no-room i b h (omega (arith, ap length e)) refl refl refl)
+        go (full L h b) = inl (onto t (records (standing (writeOut a)) L), v, no-slot i b h refl refl refl)
 
     pub eleven : Refused p t v 11 ↔ ((Outnumber (writeOut a) (slots (length t)) → ⊥) × Longer (writeOut a) (length v))
     eleven = (eleven-only, λ h. either (λ x. absurd (h .0 (ten-only x))) (λ x. x) (too-long (h .1)))

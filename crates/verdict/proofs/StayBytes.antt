@@ -91,18 +91,18 @@ pub record-bytes : (s : Standing) (o b : ℕ) → Below 256 (recordBytes s o b)
 unfolding recordBytes
 record-bytes s o b = pack-bytes 64 (recordBits s o b) (record-two s o b)
 
-pub records-bytes : (r : Re) (L M : List (List ℕ)) → Below 256 (recordsOf r L M)
+pub records-bytes : (r : Re) (L M : List (List ℕ)) → Below 256 (recordsOf (standing r) L M)
 unfolding recordsOf
 records-bytes r L [] = tt
-records-bytes r L (w ∷ M) = below-append 256 (recordOf r L w) (recordsOf r L M) (record-bytes (standing r w) (numberOf r L (standing r (body w))) (lastByte w)) (records-bytes r L M)
+records-bytes r L (w ∷ M) = below-append 256 (recordOf (standing r) L w) (recordsOf (standing r) L M) (record-bytes (standing r w) (numberOf (standing r) L (standing r (body w))) (lastByte w)) (records-bytes r L M)
 
 onto-bytes : (t u : List ℕ) → Below 256 t → Below 256 u → Below 256 (onto t u)
 onto-bytes t u h g = below-append 256 u (drop (length u) t) g (drop-below 256 (length u) t h)
 
 pub stay-bytes : {p t v : List ℕ} {x : Result} {t′ v′ : List ℕ} → Found p t v x t′ v′ → Below 256 t → Below 256 v → Below 256 t′ × Below 256 v′
 stay-bytes (not-read h e f g) a b = (rw f a, rw g b)
-stay-bytes {t = t} (same-cuts {a = y} {L = L} h c l e f g) a b = (rw f (onto-bytes t (records (writeOut y) L) a (records-bytes (writeOut y) L L)), rw g b)
+stay-bytes {t = t} (same-cuts {a = y} {L = L} h c l e f g) a b = (rw f (onto-bytes t (records (standing (writeOut y)) L) a (records-bytes (writeOut y) L L)), rw g b)
 stay-bytes {t = t} {v = v} (first-witness {a = y} {L = L} {w = w} h c l k e f g) a b =
-    (rw f (onto-bytes t (records (writeOut y) (L ++ (w ∷ []))) a (records-bytes (writeOut y) _ _)), rw g (onto-bytes v w b (first-cut (writeOut y) (writeOut-numbered y) c .bytes)))
-stay-bytes {t = t} (no-slot {a = y} {L = L} h c l e f g) a b = (rw f (onto-bytes t (records (writeOut y) L) a (records-bytes (writeOut y) L L)), rw g b)
-stay-bytes {t = t} (no-room {a = y} {L = L} {w = w} h c l k e f g) a b = (rw f (onto-bytes t (records (writeOut y) (L ++ (w ∷ []))) a (records-bytes (writeOut y) _ _)), rw g b)
+    (rw f (onto-bytes t (records (standing (writeOut y)) (L ++ (w ∷ []))) a (records-bytes (writeOut y) _ _)), rw g (onto-bytes v w b (first-cut (writeOut y) (writeOut-numbered y) c .bytes)))
+stay-bytes {t = t} (no-slot {a = y} {L = L} h c l e f g) a b = (rw f (onto-bytes t (records (standing (writeOut y)) L) a (records-bytes (writeOut y) L L)), rw g b)
+stay-bytes {t = t} (no-room {a = y} {L = L} {w = w} h c l k e f g) a b = (rw f (onto-bytes t (records (standing (writeOut y)) (L ++ (w ∷ []))) a (records-bytes (writeOut y) _ _)), rw g b)

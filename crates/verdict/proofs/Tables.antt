@@ -49,10 +49,10 @@ pub record-64 : (s : Standing) (origin byte : ℕ) → length (recordBytes s ori
 unfolding recordBytes
 record-64 s o b = length-pack 64 (recordBits s o b)
 
-pub records-size : (r : Re) (L M : List (List ℕ)) → length (recordsOf r L M) ≡ 64 * length M
+pub records-size : (r : Re) (L M : List (List ℕ)) → length (recordsOf (standing r) L M) ≡ 64 * length M
 unfolding recordsOf
 records-size r L [] = refl
-records-size r L (w ∷ M) = omega (arith, length-append (recordOf r L w) (recordsOf r L M), record-64 (standing r w) (numberOf r L (standing r (body w))) (lastByte w), records-size r L M)
+records-size r L (w ∷ M) = omega (arith, length-append (recordOf (standing r) L w) (recordsOf (standing r) L M), record-64 (standing r w) (numberOf (standing r) L (standing r (body w))) (lastByte w), records-size r L M)
 
 -- Its slots are in the table.
 pub slots-fit : (n : ℕ) → 64 * slots n ≤ n
@@ -116,18 +116,18 @@ same-no s t h = not-true (same s t) λ c. h (same-eq s t c)
 
 -- The number of a record.
 module _ (r : Re) where
-  pub number-is : (L : List (List ℕ)) (s : Standing) (j : ℕ) → j < length L → standing r (at L j) ≡ s → ((k : ℕ) → k < j → standing r (at L k) ≢ s) → numberOf r L s ≡ j
+  pub number-is : (L : List (List ℕ)) (s : Standing) (j : ℕ) → j < length L → standing r (at L j) ≡ s → ((k : ℕ) → k < j → standing r (at L k) ≢ s) → numberOf (standing r) L s ≡ j
   unfolding numberOf
   number-is [] s j l e n = absurd (omega arith)
   number-is (w ∷ L) s zero l e n = rw (e, same-refl s)
   number-is (w ∷ L) s (suc j) l e n = rw (same-no (standing r w) s (n 0 (omega arith))) (ap suc (number-is L s j (omega arith) e λ k h. n (suc k) (omega arith)))
 
   -- In a list of records it is the place of the standing.
-  pub number-at : {L : List (List ℕ)} → Records r L → (s : Standing) (j : ℕ) → j < length L → standing r (at L j) ≡ s → numberOf r L s ≡ j
+  pub number-at : {L : List (List ℕ)} → Records (standing r) L → (s : Standing) (j : ℕ) → j < length L → standing r (at L j) ≡ s → numberOf (standing r) L s ≡ j
   number-at {L} a s j l e = number-is L s j l e λ k h c. a .fresh k j h l (c ∙ sym e)
 
   -- A line added at the end changes no number,
-  pub number-add : (L : List (List ℕ)) (w : List ℕ) (s : Standing) (j : ℕ) → j < length L → standing r (at L j) ≡ s → numberOf r (L ++ (w ∷ [])) s ≡ numberOf r L s
+  pub number-add : (L : List (List ℕ)) (w : List ℕ) (s : Standing) (j : ℕ) → j < length L → standing r (at L j) ≡ s → numberOf (standing r) (L ++ (w ∷ [])) s ≡ numberOf (standing r) L s
   unfolding numberOf
   number-add [] w s j l e = absurd (omega arith)
   number-add (x ∷ L) w s zero l e = rw (e, same-refl s)
@@ -144,7 +144,7 @@ last-snoc (a ∷ []) b = refl
 last-snoc (a ∷ c ∷ u) b = last-snoc (c ∷ u) b
 
 -- The records of more lines are those of fewer, and then the new line's.
-recordsOf-append : (r : Re) (L M N : List (List ℕ)) → recordsOf r L (M ++ N) ≡ recordsOf r L M ++ recordsOf r L N
+recordsOf-append : (r : Re) (L M N : List (List ℕ)) → recordsOf (standing r) L (M ++ N) ≡ recordsOf (standing r) L M ++ recordsOf (standing r) L N
 unfolding recordsOf
 recordsOf-append r L [] N = refl
 recordsOf-append r L (w ∷ M) N = rw (recordsOf-append r L M N, append-assoc)
@@ -168,7 +168,7 @@ snoc-after u b = inl (omega (arith, length-append u (b ∷ [])))
 
 module _ (r : Re) where
   -- The line that line k comes from has its record in the list.
-  pub origin-at : {L : List (List ℕ)} → Records r L → (k : ℕ) → k < length L → (j : ℕ) × (j ≤ k) × (standing r (at L j) ≡ standing r (body (at L k)))
+  pub origin-at : {L : List (List ℕ)} → Records (standing r) L → (k : ℕ) → k < length L → (j : ℕ) × (j ≤ k) × (standing r (at L j) ≡ standing r (body (at L k)))
   origin-at {L} a k l = go (at L k) refl (from-where (at L k))
     where
       go : (w : List ℕ) → at L k ≡ w → From w → (j : ℕ) × (j ≤ k) × (standing r (at L j) ≡ standing r (body w))
@@ -177,27 +177,27 @@ module _ (r : Re) where
           let (j, i, s) = a .before k l u (below-left 256 u (b ∷ []) (rw e at (a .bytes k l))) (rw e (snoc-after u b)) in
           (j, omega arith, s ∙ ap (standing r) (sym (body-snoc u b)))
 
-  pub recordsOf-same : (L N M : List (List ℕ)) → ((k : ℕ) → k < length M → numberOf r L (standing r (body (at M k))) ≡ numberOf r N (standing r (body (at M k)))) → recordsOf r L M ≡ recordsOf r N M
+  pub recordsOf-same : (L N M : List (List ℕ)) → ((k : ℕ) → k < length M → numberOf (standing r) L (standing r (body (at M k))) ≡ numberOf (standing r) N (standing r (body (at M k)))) → recordsOf (standing r) L M ≡ recordsOf (standing r) N M
   unfolding recordsOf
   recordsOf-same L N [] e = refl
   recordsOf-same L N (w ∷ M) e =
       ap₂ _++_ (ap (λ n. recordBytes (standing r w) n (lastByte w)) (e 0 (omega arith))) (recordsOf-same L N M λ k h. e (suc k) (omega arith))
 
-  pub records-add : {L : List (List ℕ)} (w : List ℕ) → Records r L → records r (L ++ (w ∷ [])) ≡ records r L ++ recordOf r (L ++ (w ∷ [])) w
+  pub records-add : {L : List (List ℕ)} (w : List ℕ) → Records (standing r) L → records (standing r) (L ++ (w ∷ [])) ≡ records (standing r) L ++ recordOf (standing r) (L ++ (w ∷ [])) w
   unfolding recordsOf
   records-add {L} w a =
       recordsOf-append r (L ++ (w ∷ [])) L (w ∷ [])
       ∙ ap₂ _++_
       (recordsOf-same (L ++ (w ∷ [])) L L λ k h. let (j, i, e) = origin-at a k h in number-add r L w (standing r (body (at L k))) j (omega arith) e)
-      (append-nil (recordOf r (L ++ (w ∷ [])) w))
+      (append-nil (recordOf (standing r) (L ++ (w ∷ [])) w))
 
   -- The record of a line that the byte b made of line j's standing.
-  pub record-is : {L : List (List ℕ)} → Records r L → (u : List ℕ) (b j : ℕ) → j < length L → standing r (at L j) ≡ standing r u
-      → recordOf r L (u ++ (b ∷ [])) ≡ recordBytes (standing r (u ++ (b ∷ []))) j b
+  pub record-is : {L : List (List ℕ)} → Records (standing r) L → (u : List ℕ) (b j : ℕ) → j < length L → standing r (at L j) ≡ standing r u
+      → recordOf (standing r) L (u ++ (b ∷ [])) ≡ recordBytes (standing r (u ++ (b ∷ []))) j b
   record-is a u b j l e = ap₂ (recordBytes (standing r (u ++ (b ∷ [])))) (rw (body-snoc u b) (number-at r a (standing r u) j l e)) (last-snoc u b)
 
   -- The first record comes from nothing.
-  pub record-zero : (L : List (List ℕ)) → recordOf r ([] ∷ L) [] ≡ recordBytes (standing r []) 0 0
+  pub record-zero : (L : List (List ℕ)) → recordOf (standing r) ([] ∷ L) [] ≡ recordBytes (standing r []) 0 0
   unfolding numberOf
   record-zero L = rw (same-refl (standing r []))
 
@@ -211,17 +211,17 @@ onto-more t u x h =
     ∙ sym (sets-eq x (onto t u) (length u) (omega arith) ∙ ap₂ (λ a b. (a ++ x) ++ b) front back)
 
 -- Slot k holds record k.
-slot-of : (r : Re) (L M : List (List ℕ)) (y : List ℕ) (k : ℕ) → k < length M → take 64 (drop (64 * k) (recordsOf r L M ++ y)) ≡ recordOf r L (at M k)
+slot-of : (r : Re) (L M : List (List ℕ)) (y : List ℕ) (k : ℕ) → k < length M → take 64 (drop (64 * k) (recordsOf (standing r) L M ++ y)) ≡ recordOf (standing r) L (at M k)
 unfolding recordsOf
 slot-of r L [] y k l = absurd (omega arith)
 slot-of r L (w ∷ M) y zero l =
-    ap (take 64) (append-assoc (recordOf r L w) (recordsOf r L M) y)
-    ∙ take-at (recordOf r L w) (recordsOf r L M ++ y) 64 (record-64 (standing r w) (numberOf r L (standing r (body w))) (lastByte w))
+    ap (take 64) (append-assoc (recordOf (standing r) L w) (recordsOf (standing r) L M) y)
+    ∙ take-at (recordOf (standing r) L w) (recordsOf (standing r) L M ++ y) 64 (record-64 (standing r w) (numberOf (standing r) L (standing r (body w))) (lastByte w))
 slot-of r L (w ∷ M) y (suc k) l =
-    let size : length (recordOf r L w) ≡ 64 = record-64 (standing r w) (numberOf r L (standing r (body w))) (lastByte w) in
-    let e : 64 * suc k ≡ length (recordOf r L w) + 64 * k = omega arith in
-    ap (take 64) (ap₂ drop e (append-assoc (recordOf r L w) (recordsOf r L M) y) ∙ drop-append-add (recordOf r L w) (recordsOf r L M ++ y) (64 * k))
+    let size : length (recordOf (standing r) L w) ≡ 64 = record-64 (standing r w) (numberOf (standing r) L (standing r (body w))) (lastByte w) in
+    let e : 64 * suc k ≡ length (recordOf (standing r) L w) + 64 * k = omega arith in
+    ap (take 64) (ap₂ drop e (append-assoc (recordOf (standing r) L w) (recordsOf (standing r) L M) y) ∙ drop-append-add (recordOf (standing r) L w) (recordsOf (standing r) L M ++ y) (64 * k))
     ∙ slot-of r L M y k (omega arith)
 
-pub slot : (r : Re) (L : List (List ℕ)) (t : List ℕ) (k : ℕ) → k < length L → take 64 (drop (64 * k) (onto t (records r L))) ≡ recordOf r L (at L k)
-slot r L t k l = slot-of r L L (drop (length (records r L)) t) k l
+pub slot : (r : Re) (L : List (List ℕ)) (t : List ℕ) (k : ℕ) → k < length L → take 64 (drop (64 * k) (onto t (records (standing r) L))) ≡ recordOf (standing r) L (at L k)
+slot r L t k l = slot-of r L L (drop (length (records (standing r) L)) t) k l

@@ -89,7 +89,7 @@ pigeons n f g m h other =
     omega (arith, holes-size n f g m h, length-from 0 n)
 
 module _ (r : Re) (d : Numbered 0 r) where
-  pub alike-none : {L : List (List ℕ)} → Alike r L → NoneCut r
+  pub alike-none : {L : List (List ℕ)} → Alike (standing r) L → NoneCut r
   alike-none a u h c = c (alike-right r d a u h)
 
   -- A line that is cut differently is a witness, or one comes before it.
@@ -99,7 +99,7 @@ module _ (r : Re) (d : Numbered 0 r) where
       (v, below-left 256 v y (below-right 256 x (v ++ y) (rw e at h)), part-of u x v y e, i)
 
   -- THE FIRST WITNESS IS THE FIRST LINE THAT IS CUT DIFFERENTLY.
-  pub first-cut : {L : List (List ℕ)} {w : List ℕ} → Unlike r L w → FirstCut r w
+  pub first-cut : {L : List (List ℕ)} {w : List ℕ} → Unlike (standing r) L w → FirstCut r w
   first-cut {L} {w} a =
       record {
         bytes = rw (snoc-last L w) at (a .records .bytes (length L) (omega (arith, snoc-size L w)));
@@ -134,7 +134,7 @@ module _ (r : Re) (d : Numbered 0 r) where
   enough a h (M, o) = let c = most a o in omega arith
 
   -- The first lines of the records stand in their order.
-  pub records-up : {L : List (List ℕ)} → Records r L → (j k : ℕ) → j < k → k < length L → at L j ≺ at L k
+  pub records-up : {L : List (List ℕ)} → Records (standing r) L → (j k : ℕ) → j < k → k < length L → at L j ≺ at L k
   records-up {L} a j k o l = go (≺-total (at L j) (at L k))
     where
       go : (at L j ≺ at L k) ⊎ ((at L j ≡ at L k) ⊎ (at L k ≺ at L j)) → at L j ≺ at L k
@@ -143,7 +143,7 @@ module _ (r : Re) (d : Numbered 0 r) where
       go (inr (inr h)) = let (i, b, e) = a .before j (omega arith) (at L k) (a .bytes k l) h in absurd (a .fresh i k (omega arith) l e)
 
   -- Alike: the count is the number of all distinct standings.
-  pub alike-number : {L : List (List ℕ)} → Alike r L → Number r (length L)
+  pub alike-number : {L : List (List ℕ)} → Alike (standing r) L → Number r (length L)
   alike-number {L} a =
       record {
         lines = L;
@@ -152,7 +152,7 @@ module _ (r : Re) (d : Numbered 0 r) where
       }
 
   -- Unlike: .. of those of the lines up to and including the first that is cut differently.
-  pub unlike-number : {L : List (List ℕ)} {w : List ℕ} → Unlike r L w → Number r (suc (length L))
+  pub unlike-number : {L : List (List ℕ)} {w : List ℕ} → Unlike (standing r) L w → Number r (suc (length L))
   unlike-number {L} {w} a =
       record {
         lines = L ++ (w ∷ []);
@@ -180,7 +180,7 @@ module _ (r : Re) (d : Numbered 0 r) where
       go u h (inr o) = let (j, l, e) = a .records .before (length L) last u h (subst (λ x. u ≺ x) (sym (snoc-last L w)) o) in (j, omega arith, e)
 
   -- Records of which only the last may be a witness's.
-  outnumber : {M : List (List ℕ)} {n : ℕ} → Records r M → length M ≡ suc n → ((k : ℕ) → k < n → T (isWitness (standing r (at M k))) → ⊥) → Outnumber r n
+  outnumber : {M : List (List ℕ)} {n : ℕ} → Records (standing r) M → length M ≡ suc n → ((k : ℕ) → k < n → T (isWitness (standing r (at M k))) → ⊥) → Outnumber r n
   outnumber {M} {n} a e none = (
     M,
     record {
@@ -198,7 +198,7 @@ module _ (r : Re) (d : Numbered 0 r) where
   pub full-outnumbers : {L : List (List ℕ)} → Full r L → Outnumber r (length L)
   full-outnumbers {L} f = go (check r d (suc (length L)))
     where
-      early : {M : List (List ℕ)} → Records r M → (k : ℕ) → k < length L → k < length M → T (isWitness (standing r (at M k))) → ⊥
+      early : {M : List (List ℕ)} → Records (standing r) M → (k : ℕ) → k < length L → k < length M → T (isWitness (standing r (at M k))) → ⊥
       early b k l m t = f .none k l (subst (λ x. T (isWitness (standing r x))) (sym (common r d (f .records) b k l m)) t)
 
       go : SearchEnd r (suc (length L)) → Outnumber r (length L)

@@ -1,12 +1,11 @@
--- The table: its records, one after the other, and its slots.
+-- The table: its records, one after the other, and its slots. `stand` gives each line its standing.
 -- Assumes nothing.
 use Prim.Native.Nat.{ℕ, suc, _/_, min}
 use mathlib.Core.Bool.{Bool, true, false, _&&_, cond}
 use mathlib.Core.List.{List, [], _∷_, _++_}
 use lib.ListN.{length, drop}
 use lib.Dec.{eqb}
-use Rattle.theory.specs.Pattern.{Re}
-use Rattle.theory.specs.Standing.{Standing, standing}
+use Rattle.theory.specs.Standing.{Standing}
 use Rattle.verdict.specs.Record.{recordSize, recordBytes}
 
 -- A line without its last byte: the line it "comes from by its last byte". "Record 0 has zero for both origin fields": the empty line comes from itself, by 0.
@@ -37,22 +36,22 @@ unfoldable pub same : Standing → Standing → Bool
 same s t = sameList (s .order) (t .order) && (sameBool (s .first) (t .first) && (sameList (s .all) (t .all) && sameBool (s .some) (t .some)))
 
 -- The number of the record that has the standing s, among those with the first lines L.
-unfoldable pub numberOf : Re → List (List ℕ) → Standing → ℕ
-numberOf r [] s = 0
-numberOf r (w ∷ L) s = cond (same (standing r w) s) 0 (suc (numberOf r L s))
+unfoldable pub numberOf : (List ℕ → Standing) → List (List ℕ) → Standing → ℕ
+numberOf stand [] s = 0
+numberOf stand (w ∷ L) s = cond (same (stand w) s) 0 (suc (numberOf stand L s))
 
 -- The record whose first line is w, among those with the first lines L.
-abbrev pub recordOf : Re → List (List ℕ) → List ℕ → List ℕ
-recordOf r L w = recordBytes (standing r w) (numberOf r L (standing r (body w))) (lastByte w)
+abbrev pub recordOf : (List ℕ → Standing) → List (List ℕ) → List ℕ → List ℕ
+recordOf stand L w = recordBytes (stand w) (numberOf stand L (stand (body w))) (lastByte w)
 
 -- The records whose first lines are M, among those with the first lines L, one after the other.
-unfoldable pub recordsOf : Re → List (List ℕ) → List (List ℕ) → List ℕ
-recordsOf r L [] = []
-recordsOf r L (w ∷ M) = recordOf r L w ++ recordsOf r L M
+unfoldable pub recordsOf : (List ℕ → Standing) → List (List ℕ) → List (List ℕ) → List ℕ
+recordsOf stand L [] = []
+recordsOf stand L (w ∷ M) = recordOf stand L w ++ recordsOf stand L M
 
 -- The table of the records with the first lines L.
-abbrev pub records : Re → List (List ℕ) → List ℕ
-records r L = recordsOf r L L
+abbrev pub records : (List ℕ → Standing) → List (List ℕ) → List ℕ
+records stand L = recordsOf stand L L
 
 -- "The slots are the table's length divided by 64, rounded down, at most 65,535."
 unfoldable pub slots : ℕ → ℕ

@@ -114,10 +114,10 @@ pub extern "C" fn yindorka_check(pattern: &[u8], table: &mut [u8], witness: &mut
     numbers_of(checker::check(pattern, table, witness))
 }
 
-// The version of the library: 10001 is 1.0.1.
+// The version of the library: 10100 is 1.1.0.
 #[no_mangle]
 pub extern "C" fn yindorka_version() -> u32
-    ensures version { λ r. ⌜ r ≡ 10001 ⌝ }
+    ensures version { λ r. ⌜ r ≡ 10100 ⌝ }
 {
-    10001
+    10100
 }

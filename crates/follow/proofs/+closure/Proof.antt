@@ -27,7 +27,7 @@ abbrev closure-below : ℕ → In 1 closure-kinds.ps
 closure-below t = and 1 closure-kinds.ps (falls 1 closure-kinds.ps _<_ μ-closure t) closure.Pre
 
 abbrev callees-closure : ℕ → closure-lts.Claims
-callees-closure t = (join-reads.Asked, join-reads.Learnt, add-reads.Asked, add-reads.Learnt, none-reads.Asked, none-reads.Learnt, closure-below t, closure.Post, middle-reads.Asked, middle-reads.Learnt)
+callees-closure t = (join-reads.Asked, join-reads.Learnt, add-reads.Asked, add-reads.Learnt, closure-below t, closure.Post, middle-reads.Asked, middle-reads.Learnt, none-reads.Asked, none-reads.Learnt)
 
 closure-returns : (t : ℕ) → closure-lts.Need-returns (callees-closure t) (closure-at t) closure.Post
 closure-returns t c =
@@ -47,37 +47,37 @@ closure-returns-4 t c =
 
 closure-returns-5 : (t : ℕ) → closure-lts.Need-returns-5 (callees-closure t) (closure-at t) closure.Post
 closure-returns-5 t c =
-    closure-star (omega (arith, c .before .before .before .before .before .before .before .before .if1 .left)) (c .before .before .if5 .taken) (c .before .before .before .none .ensures) (c .before .closure .ensures) (c .join4 .ensures)
+    closure-star (omega (arith, c .before .before .before .before .before .before .before .if1 .left)) (c .before .before .if5 .taken) (c .before .closure .ensures) (c .join4 .ensures)
 
 closure-closure-requires-2 : (t : ℕ) → closure-lts.Need-closure-requires-2 (callees-closure t) (closure-at t) closure.Post
 closure-closure-requires-2 t c κs =
     let s = c .before .before .before .before .before .before .before .before .before in
-    (omega (arith, s .pre .0, c .before .middle .ensures, c .before .before .before .before .before .before .before .before .if1 .left), (omega (arith, s .pre .1 .0, c .before .middle .ensures), s .pre .1 .1, c .before .before .before .none .ensures .good))
+    (omega (arith, s .pre .0, c .before .before .middle .ensures, c .before .before .before .before .before .before .before .before .if1 .left), (omega (arith, s .pre .1 .0, c .before .before .middle .ensures), s .pre .1 .1, c .none .ensures .good))
 
 closure-closure-requires-3 : (t : ℕ) → closure-lts.Need-closure-requires-3 (callees-closure t) (closure-at t) closure.Post
 closure-closure-requires-3 t c κs =
     let s = c .before .before .before .before .before .before .before .before .before .before in
-    (omega (arith, s .pre .0, c .before .before .middle .ensures, c .before .before .before .before .before .before .before .before .before .if1 .left), (omega (arith, s .pre .1 .0, c .before .before .middle .ensures), c .closure2 .ensures .good, s .pre .1 .2))
+    (omega (arith, s .pre .0, c .before .before .before .middle .ensures, c .before .before .before .before .before .before .before .before .before .if1 .left), (omega (arith, s .pre .1 .0, c .before .before .before .middle .ensures), c .closure2 .ensures .good, s .pre .1 .2))
 
 closure-returns-6 : (t : ℕ) → closure-lts.Need-returns-6 (callees-closure t) (closure-at t) closure.Post
 closure-returns-6 t c =
-    closure-seq (omega (arith, c .before .before .before .before .before .before .before .before .before .before .if1 .left)) (c .before .before .before .middle .ensures) (c .before .before .if6 .taken) (c .before .before .before .before .before .none .ensures) (c .before .closure2 .ensures) (c .closure3 .ensures)
+    closure-seq (omega (arith, c .before .before .before .before .before .before .before .before .before .before .if1 .left)) (c .before .before .before .before .middle .ensures) (c .before .before .before .if6 .taken) (c .before .before .none .ensures) (c .before .closure2 .ensures) (c .closure3 .ensures)
 
 closure-closure-requires-4 : (t : ℕ) → closure-lts.Need-closure-requires-4 (callees-closure t) (closure-at t) closure.Post
 closure-closure-requires-4 t c κs =
-    let s = c .before .before .before .before .before .before .before .before .before in
-    (omega (arith, s .pre .0, c .before .middle .ensures, c .before .before .before .before .before .before .before .before .if1 .left), (omega (arith, s .pre .1 .0, c .before .middle .ensures), s .pre .1 .1, s .pre .1 .2))
+    let s = c .before .before .before .before .before .before .before .before in
+    (omega (arith, s .pre .0, c .before .middle .ensures, c .before .before .before .before .before .before .before .if1 .left), (omega (arith, s .pre .1 .0, c .before .middle .ensures), s .pre .1 .1, s .pre .1 .2))
 
 closure-closure-requires-5 : (t : ℕ) → closure-lts.Need-closure-requires-5 (callees-closure t) (closure-at t) closure.Post
 closure-closure-requires-5 t c κs =
-    let s = c .before .before .before .before .before .before .before .before .before .before in
-    (omega (arith, s .pre .0, c .before .before .middle .ensures, c .before .before .before .before .before .before .before .before .before .if1 .left), (omega (arith, s .pre .1 .0, c .before .before .middle .ensures), s .pre .1 .1, c .closure4 .ensures .good))
+    let s = c .before .before .before .before .before .before .before .before .before in
+    (omega (arith, s .pre .0, c .before .before .middle .ensures, c .before .before .before .before .before .before .before .before .if1 .left), (omega (arith, s .pre .1 .0, c .before .before .middle .ensures), s .pre .1 .1, c .closure4 .ensures .good))
 
 closure-returns-7 : (t : ℕ) → closure-lts.Need-returns-7 (callees-closure t) (closure-at t) closure.Post
 closure-returns-7 t c =
     let c3 = c .before .before .before in
-    let c6 = c3 .before .before .before in
-    closure-alt (omega (arith, c6 .before .before .before .before .if1 .left)) (c3 .middle .ensures) (two _ (c6 .before .before .if2 .left) (c3 .before .if5 .left) (c .before .before .if6 .left) (c6 .if4 .left)) (c .before .closure4 .ensures) (c .closure5 .ensures)
+    let c5 = c3 .before .before in
+    closure-alt (omega (arith, c5 .before .before .before .before .if1 .left)) (c3 .middle .ensures) (two _ (c5 .before .before .if2 .left) (c3 .before .if5 .left) (c .before .before .if6 .left) (c5 .if4 .left)) (c .before .closure4 .ensures) (c .closure5 .ensures)
 
 pub +closure-spec : {M : Type 1} → statement M
 +closure-spec = close μ-closure λ t. closure-lts.spec (callees-closure t) (closure-at t)
@@ -95,8 +95,8 @@ pub +closure-spec : {M : Type 1} → statement M
     (closure-returns-4 t)
     (λ c κs. search needs)
     (λ c κs. search needs)
-    (λ c κs. search needs)
     (closure-returns-5 t)
+    (λ c κs. search needs)
     (λ c κs. search needs)
     (closure-closure-requires-2 t)
     (closure-closure-requires-3 t)

@@ -38,7 +38,7 @@ closure empty = 0 ∷ []
 closure (leaf p s) = suc p ∷ []
 closure (seq x y) = once (splice (closure y) (closure x))
 closure (alt x y) = once (closure x ++ closure y)
-closure (star x) = once (splice [] (closure x) ++ (0 ∷ []))
+closure (star x) = once (closure x ++ (0 ∷ []))
 
 -- The same right after the leaf p took a byte.
 unfoldable pub closureAfter : Re → ℕ → List ℕ

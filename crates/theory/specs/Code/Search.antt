@@ -26,11 +26,11 @@ Search r L q c = Trace (standing r) 256 L q c
 
 -- There are more records than L has lines.
 pub record Full (r : Re) (L : List (List ℕ)) : Type 0 where
-  pub records : Records r L
-  pub none : NoWitness r L
+  pub records : Records (standing r) L
+  pub none : NoWitness (standing r) L
   pub more : (v : List ℕ) × Below 256 v × ((k : ℕ) → k < length L → standing r (at L k) ≢ standing r v)
 
 pub data SearchEnd (r : Re) (slots : ℕ) : Type 0 where
-  alike : (L : List (List ℕ)) → length L ≤ slots → Alike r L → SearchEnd r slots
-  unlike : (L : List (List ℕ)) (w : List ℕ) → length L < slots → Unlike r L w → SearchEnd r slots
+  alike : (L : List (List ℕ)) → length L ≤ slots → Alike (standing r) L → SearchEnd r slots
+  unlike : (L : List (List ℕ)) (w : List ℕ) → length L < slots → Unlike (standing r) L w → SearchEnd r slots
   full : (L : List (List ℕ)) → length L ≡ slots → Full r L → SearchEnd r slots

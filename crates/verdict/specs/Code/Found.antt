@@ -4,6 +4,7 @@ use mathlib.Core.Path.{_≡_}
 use Prim.Native.Nat.{ℕ, suc, _≤_, _<_}
 use mathlib.Core.List.{List, [], _∷_, _++_}
 use lib.ListN.{length}
+use Rattle.theory.specs.Standing.{standing}
 use Rattle.theory.specs.Records.{Alike, Unlike}
 use Rattle.theory.specs.Code.Search.{Full}
 use Rattle.grammar.specs.Grammar.{Alternation}
@@ -17,14 +18,14 @@ pub data Found (p t v : List ℕ) (x : Result) (t′ v′ : List ℕ) : Type 0 w
   -- 1 to 8: a refused pattern goes no further than the reader.
   not-read : {n q : ℕ} → Fault p n q → x ≡ refused n q → t′ ≡ t → v′ ≡ v → Found p t v x t′ v′
   -- L has the first lines of all records, and no witness is among them.
-  same-cuts : {a : Alternation} {L : List (List ℕ)} → Reads p a → Alike (writeOut a) L → length L ≤ slots (length t)
-      → x ≡ alike (length L) → t′ ≡ onto t (records (writeOut a) L) → v′ ≡ v → Found p t v x t′ v′
+  same-cuts : {a : Alternation} {L : List (List ℕ)} → Reads p a → Alike (standing (writeOut a)) L → length L ≤ slots (length t)
+      → x ≡ alike (length L) → t′ ≡ onto t (records (standing (writeOut a)) L) → v′ ≡ v → Found p t v x t′ v′
   -- w is the first witness, and its record is the last.
-  first-witness : {a : Alternation} {L : List (List ℕ)} {w : List ℕ} → Reads p a → Unlike (writeOut a) L w → length L < slots (length t) → length w ≤ length v
-      → x ≡ unlike (suc (length L)) (length w) → t′ ≡ onto t (records (writeOut a) (L ++ (w ∷ []))) → v′ ≡ onto v w → Found p t v x t′ v′
+  first-witness : {a : Alternation} {L : List (List ℕ)} {w : List ℕ} → Reads p a → Unlike (standing (writeOut a)) L w → length L < slots (length t) → length w ≤ length v
+      → x ≡ unlike (suc (length L)) (length w) → t′ ≡ onto t (records (standing (writeOut a)) (L ++ (w ∷ []))) → v′ ≡ onto v w → Found p t v x t′ v′
   -- 10: L has the first lines of as many records as there are slots, no witness is among them, and there are more records.
   no-slot : {a : Alternation} {L : List (List ℕ)} → Reads p a → Full (writeOut a) L → length L ≡ slots (length t)
-      → x ≡ refused 10 0 → t′ ≡ onto t (records (writeOut a) L) → v′ ≡ v → Found p t v x t′ v′
+      → x ≡ refused 10 0 → t′ ≡ onto t (records (standing (writeOut a)) L) → v′ ≡ v → Found p t v x t′ v′
   -- 11: no 10, but the witness is longer than its buffer.
-  no-room : {a : Alternation} {L : List (List ℕ)} {w : List ℕ} → Reads p a → Unlike (writeOut a) L w → length L < slots (length t) → length v < length w
-      → x ≡ refused 11 0 → t′ ≡ onto t (records (writeOut a) (L ++ (w ∷ []))) → v′ ≡ v → Found p t v x t′ v′
+  no-room : {a : Alternation} {L : List (List ℕ)} {w : List ℕ} → Reads p a → Unlike (standing (writeOut a)) L w → length L < slots (length t) → length v < length w
+      → x ≡ refused 11 0 → t′ ≡ onto t (records (standing (writeOut a)) (L ++ (w ∷ []))) → v′ ≡ v → Found p t v x t′ v′

@@ -1,0 +1,130 @@
+// The checker as C calls it, for tests/requests. Standard input has a call a line: 'PATTERN TABLE WITNESS', that is the pattern in hex ('-' if it is empty) and how
+// many bytes of table and witness buffer are lent. Before the call every byte of the table is aa and every byte of the witness buffer bb, and guard bytes stand before
+// and behind both. Prints for each call, on one line, the result as the checker program has it, then the table and the witness buffer in hex ('-' if one is empty),
+// each after ' : ', and ' : guard bytes changed' if some are.
+#include <stdio.h>
+#include <stdlib.h>
+#include <string.h>
+#include "yindorka.h"
+
+#define GUARD 64
+#define GUARD_BYTE 0xEE
+#define TABLE_BYTE 0xAA
+#define WITNESS_BYTE 0xBB
+
+// A lent buffer, between its guard bytes; at points to its own first byte, which is never null.
+typedef struct {
+    uint8_t *at;
+    size_t length;
+} buffer;
+
+static void *room(size_t length)
+{
+    void *at = malloc(length);
+
+    if (!at)
+        exit(2);
+    return at;
+}
+
+static buffer lend(size_t length, uint8_t byte)
+{
+    uint8_t *whole = room(length + 2 * GUARD);
+
+    memset(whole, GUARD_BYTE, length + 2 * GUARD);
+    memset(whole + GUARD, byte, length);
+    return (buffer){whole + GUARD, length};
+}
+
+static int guards_kept(buffer b)
+{
+    const uint8_t *before = b.at - GUARD, *behind = b.at + b.length;
+
+    for (size_t i = 0; i < GUARD; i++)
+        if (before[i] != GUARD_BYTE || behind[i] != GUARD_BYTE)
+            return 0;
+    return 1;
+}
+
+static void give_back(buffer b)
+{
+    free(b.at - GUARD);
+}
+
+static void print_hex(const uint8_t *bytes, size_t length)
+{
+    for (size_t i = 0; i < length; i++)
+        printf("%02x", bytes[i]);
+}
+
+static void print_buffer(buffer b)
+{
+    printf(" : ");
+    print_hex(b.at, b.length);
+    if (b.length == 0)
+        putchar('-');
+}
+
+static void print_result(yindorka_outcome outcome, buffer witness)
+{
+    if (outcome.kind == 0)
+        printf("alike %zu", outcome.first);
+    else if (outcome.kind == 1 && outcome.second <= witness.length) {
+        printf("unlike %zu ", outcome.first);
+        print_hex(witness.at, outcome.second);
+    } else if (outcome.kind == 2)
+        printf("refused %zu %zu", outcome.first, outcome.second);
+    else
+        printf("no outcome: %zu %zu %zu", outcome.kind, outcome.first, outcome.second);
+}
+
+static void call(const uint8_t *pattern, size_t length, buffer table, buffer witness)
+{
+    yindorka_outcome outcome = yindorka_check(pattern, length, table.at, table.length, witness.at, witness.length);
+
+    print_result(outcome, witness);
+    print_buffer(table);
+    print_buffer(witness);
+    puts(guards_kept(table) && guards_kept(witness) ? "" : " : guard bytes changed");
+}
+
+static int digit(char c)
+{
+    return c <= '9' ? c - '0' : c - 'a' + 10;
+}
+
+// Puts the bytes that hex says at bytes, and returns how many; '-' says none.
+static size_t read_hex(const char *hex, uint8_t *bytes)
+{
+    size_t n = 0;
+
+    for (; hex[0] != '-' && hex[2 * n]; n++)
+        bytes[n] = (uint8_t)(16 * digit(hex[2 * n]) + digit(hex[2 * n + 1]));
+    return n;
+}
+
+int main(void)
+{
+    char *line = NULL;
+    size_t size = 0, table_length, witness_length;
+
+    while (getline(&line, &size, stdin) >= 0) {
+        char *lengths = strchr(line, ' ');
+        uint8_t *pattern = room(strlen(line) + 1);
+        size_t length;
+        buffer table, witness;
+
+        if (!lengths || sscanf(lengths, "%zu %zu", &table_length, &witness_length) != 2)
+            return 2;
+        *lengths = 0;
+        length = read_hex(line, pattern);
+        table = lend(table_length, TABLE_BYTE);
+        witness = lend(witness_length, WITNESS_BYTE);
+        call(pattern, length, table, witness);
+        give_back(table);
+        give_back(witness);
+        free(pattern);
+    }
+    free(line);
+    return 0;
+}
