@@ -5,8 +5,11 @@
  * as long as no two calls share a buffer that one of them writes. No function fails: what is no pattern is refused with a number and a place.
  * A pointer to a buffer of length 0 must not be null. Linux on x86-64.
  *
- * The stack is not proved. It was measured over some 25,000 patterns, the deepest and the heaviest among them, for 1.0.0, and for this version over those that took
- * the most; tests/embedding holds it:
+ * The greedy reading takes the first alternative first and leaves a repeat (*, + or {m,}) after a turn that takes nothing, as Perl does; the POSIX reading takes the
+ * longest match. Both begin at the leftmost start.
+ *
+ * The stack is not proved. It was measured over some 25,000 patterns, the deepest and the heaviest among them, for 1.0.0, and for each version since over those that
+ * took the most; tests/embedding holds it:
  * yindorka_check takes at most 220 KB, yindorka_prepare 220 KB, yindorka_cut 2 KB. The size of a line or a table changes nothing in this.
  */
 #ifndef YINDORKA_H

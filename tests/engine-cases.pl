@@ -5,15 +5,18 @@
 # no Unicode rule enters, and a group captures nothing. For glibc, with the extended syntax in the C locale, a special byte stands after `\`, every class and `.` is
 # a bracket expression of its bytes, and the empty sequence is `()`.
 #
-# No part that matches the empty string is under a repeat. All six signs count, `?` and `{m}` too: on an empty turn each engine has rules of its own (the paper
-# drops it, Perl leaves the loop), and without one a sign has the same meaning everywhere.
+# Any part may be under any sign, one that matches the empty string too. At an empty turn Perl leaves the repeat, as the paper does. It leaves a count `{m,n}` as
+# well, which the paper only writes out: `(|a|aaa){0,2}(ab|bc)` on `aaabc` has the greedy span 0 5 by the paper, 0 4 by Perl's count. So for Perl such a count is
+# written out. `?`, `{m}` and `{m,}` are not: in the first m turns Perl does not look for an empty one, and where the last of these is empty, the turns that the
+# paper adds end where Perl's other choices for it do, in the same order. To glibc, as to the paper, an empty turn adds nothing: no POSIX span is left out.
 use strict;
 use warnings;
-use List::Util qw(min sum0);
+use List::Util qw(max min product sum0);
 
 use constant {
     LINES => 31,      # of a pattern: as many as there are over two bytes up to length 4
     LONGEST => 70,    # bytes of a line: patterns of weight 64 can match
+    WAYS => 1_000,    # in which a part matches the empty string: regcomp walks them all, and takes a minute for `(()?){23,}`
 };
 my $SPECIAL = qr/[\\|()\[\]{}*+?.^\$]/;
 my @BYTES = map { chr } 0 .. 255;
@@ -29,10 +32,13 @@ my @ANY = @BYTES[0 .. 9, 11 .. 255];
 my @KINDS = (['a' .. 'c'], ['a' .. 'c'], [qw(a B 7 _ z)], [split //, '\\|()[]{}*+?.^$'], [split //, ']-[^\\:='], [@BYTES[0 .. 9, 11 .. 31, 127]],
     [@BYTES[128 .. 255]], [' ', "\t", "\r", 'x', '.', '~'], \@ANY);
 my @own;
+# How readily a sequence of the pattern is empty.
+my $blank;
 
 sub pick { return $_[rand @_] }
 
-# ---- Parts of a pattern: kind, three spellings, whether it matches the empty string, weight, and a sub that gives a sample of what it matches.
+# ---- Parts of a pattern: kind, three spellings, in how many ways it matches the empty string without a turn of a loop, the most such ways of it or a part of it,
+# constructs that its text does not show, weight, and a sub that gives a sample of what it matches.
 
 # A set for glibc: `]` first, `-` last, `^` before it; the rest ascends, so that no `[` stands before `.`, `:` or `=`. Byte 0, which regcomp cannot be given, is in
 # a set by not being listed; to hold all bytes or none takes two leaves. glibc's own `.` would not do: it takes 10 and not 0.
@@ -58,8 +64,8 @@ sub leaf {
     my $others = $members =~ tr/\n//dr;
     return {
         kind => 'leaf', ours => $text, posix => bracket_expression($members),
-        perl => $negated ? "[^$escapes]" : length $listed == 1 ? sprintf('\x{%x}', ord $listed) : "[$escapes]",
-        empty => 0, weight => 1, sample => sub { my $from = $own ne '' && rand() < 0.8 ? $own : $others; substr $from, rand length $from, 1 },
+        perl => $negated ? "[^$escapes]" : length $listed == 1 ? sprintf('\x{%x}', ord $listed) : "[$escapes]", empty => 0, widest => 0, has => [],
+        weight => 1, sample => sub { my $from = $own ne '' && rand() < 0.8 ? $own : $others; substr $from, rand length $from, 1 },
     };
 }
 
@@ -75,17 +81,20 @@ sub spellings {
 
 sub sequence {
     my @atoms = @_;
+    my @ways = map { $_->{empty} || () } @atoms;
     return {
-        kind => 'sequence', @atoms ? spellings('', @atoms) : (ours => '', perl => '', posix => '()'), empty => !grep({ !$_->{empty} } @atoms),
+        kind => 'sequence', @atoms ? spellings('', @atoms) : (ours => '', perl => '', posix => '()'), empty => @ways == @atoms && product(@ways),
+        widest => max(product(@ways), map { $_->{widest} } @atoms), has => [map { @{$_->{has}} } @atoms],
         weight => sum0(map { $_->{weight} } @atoms) || 1, sample => sub { join '', map { $_->{sample}->() } @atoms },
     };
 }
 
 sub alternation {
     my @sequences = @_;
+    my $ways = sum0(map { $_->{empty} } @sequences);
     return {
-        kind => 'alternation', spellings('|', @sequences), empty => 0 < grep({ $_->{empty} } @sequences),
-        weight => sum0(map { $_->{weight} } @sequences), sample => sub { pick(@sequences)->{sample}->() },
+        kind => 'alternation', spellings('|', @sequences), empty => $ways, widest => max($ways, map { $_->{widest} } @sequences),
+        has => [map { @{$_->{has}} } @sequences], weight => sum0(map { $_->{weight} } @sequences), sample => sub { pick(@sequences)->{sample}->() },
     };
 }
 
@@ -97,15 +106,20 @@ sub group {
 # Without a most there is no bound.
 sub repeat {
     my ($atom, $sign, $least, $most) = @_;
+    my $ways = sum0(map { $atom->{empty} ** $_ } $least .. $most // $least);
     # Perl takes no leading zero in a count.
     my $plain = $sign =~ s/\b0(?=\d)//gr;
+    # The optional turns of a count that is written out.
+    my $more = $atom->{empty} && defined $most && $most > 1 ? $most - $least : 0;
+    my $perl = $more ? $atom->{perl} x $least . "(?:$atom->{perl}" x $more . ')?' x $more : $atom->{perl} . $plain;
     my $sample = sub {
         my $times = defined $most && rand() < 0.2 ? $most : $least;
         $times++ while (!defined $most || $times < $most) && rand() < 0.6;
         return join '', map { $atom->{sample}->() } 1 .. $times;
     };
     return {
-        kind => 'repeat', ours => $atom->{ours} . $sign, perl => $atom->{perl} . $plain, posix => $atom->{posix} . $plain, empty => $least == 0,
+        kind => 'repeat', ours => $atom->{ours} . $sign, perl => $perl, posix => $atom->{posix} . $plain, empty => $ways, widest => max($ways, $atom->{widest}),
+        has => [@{$atom->{has}}, $atom->{empty} ? 'repeat of a part that matches empty' : (), $more ? 'count written out for Perl' : ()],
         weight => $atom->{weight} * ($most // $least + 1) || 1, sample => $sample,
     };
 }
@@ -125,7 +139,7 @@ sub small_parts {
                 $first->{kind} eq 'sequence' ? () : grep { $_->{ours} ne '' } @second;
         }
     }
-    for my $atom (map { $_->{kind} eq 'leaf' ? $_ : group($_) } grep { !$_->{empty} } small_parts($size - 1)) {
+    for my $atom (map { $_->{kind} eq 'leaf' ? $_ : group($_) } small_parts($size - 1)) {
         push @parts, repeat($atom, '*', 0), repeat($atom, '+', 1), repeat($atom, '?', 0, 1), repeat($atom, '{2}', 2, 2);
     }
     return @parts;
@@ -153,7 +167,7 @@ sub random_class {
 # The atom, half the time under a sign that keeps its weight within what is left.
 sub random_repeat {
     my ($atom, $left) = @_;
-    return $atom if $atom->{empty} || rand() < 0.5;
+    return $atom if rand() < 0.5;
     my $copies = min(63, int($left / $atom->{weight}));
     my $up_to = sub { int rand(1 + (rand() < 0.9 ? min(3, $_[0]) : $_[0])) };
     my ($n, $open) = ($up_to->($copies), $up_to->($copies - 1));
@@ -174,7 +188,7 @@ sub random_atom {
 sub random_sequence {
     my ($left, $deep, $nest) = @_;
     my @atoms;
-    while ($left > 0 && rand() < (@atoms ? 0.6 : 0.93)) {
+    while ($left > 0 && rand() < (@atoms ? 0.6 : 1 - $blank)) {
         push @atoms, random_repeat(random_atom($left, $deep, $nest), $left);
         $left -= $atoms[-1]{weight};
     }
@@ -194,9 +208,10 @@ sub random_alternation {
 sub random_pattern {
     my @kinds = map { @$_ } pick(@KINDS), rand() < 0.2 ? pick(@KINDS) : ();
     @own = map { pick(@kinds) } 1 .. pick(1, 2, 2, 3, 3, 4);
-    my ($deep, $nest) = @{pick([1, 0.3], [2, 0.3], [3, 0.3], [4, 0.3], [16, 0.5], [16, 0.95])};
+    $blank = pick(0.07, 0.3);
+    my ($deep, $nest) = @{pick([1, 0.3], [2, 0.3], [3, 0.3], [4, 0.7], [16, 0.5], [16, 0.95])};
     my $pattern = random_alternation(pick(4, 6, 8, 12, 16, 24, 64), $deep, $nest);
-    return length $pattern->{ours} > 255 ? random_pattern() : $pattern;
+    return length $pattern->{ours} > 255 || $pattern->{widest} > WAYS ? random_pattern() : $pattern;
 }
 
 # ---- Lines.
@@ -237,22 +252,31 @@ sub short_lines {
 # ---- Cases.
 
 sub case_of {
-    my ($pattern, @lines) = @_;
-    return { map({ $_ => $pattern->{$_} } qw(ours perl posix)), lines => \@lines };
+    my ($pattern, $lines) = @_;
+    return { map({ $_ => $pattern->{$_} } qw(ours perl posix has)), lines => $lines };
 }
 
 sub random_case {
     my $pattern = random_pattern();
-    return case_of($pattern, random_lines($pattern));
+    return case_of($pattern, [random_lines($pattern)]);
 }
 
 # Of two patterns that differ by a and b swapped, one.
 sub small_cases {
     @own = ();
-    return map { case_of($_, short_lines()) } grep { $_->{ours} !~ /^[^a]*b/ } map { small_parts($_) } 1 .. 4;
+    # One list for all: the more memory is in use, the longer it takes to start a process.
+    my $lines = [short_lines()];
+    return map { case_of($_, $lines) } grep { $_->{ours} !~ /^[^a]*b/ } map { small_parts($_) } 1 .. 4;
 }
 
-# The constructs in a pattern's text, for the summary. Each is told by one token of the text.
+# `(|a)*`, and the count from the head of this file, for the self-test.
+sub empty_turn_cases {
+    @own = ();
+    my ($turn, $tail) = map { group(alternation(map { sequence(map { byte($_) } split //) } @$_)) } ['', 'a', 'aaa'], ['ab', 'bc'];
+    return case_of(repeat(group(alternation(sequence(), byte('a'))), '*', 0), [short_lines()]), case_of(sequence(repeat($turn, '{0,2}', 0, 2), $tail), ['aaabc']);
+}
+
+# The constructs of a case's pattern, for the summary. Each of these is told by one token of the text.
 my @CONSTRUCTS = (
     ['escaped byte', qr/^\\/], ['byte above 127', qr/^[\x80-\xff]/], ['control byte', qr/^[\0-\x1f\x7f]/], ['.', qr/^\./], ['group', qr/^\(/],
     ['alternation', qr/^\|/], ['class', qr/^\[[^^]/], ['negated class', qr/^\[\^/], ['range', qr/^\[(\\.|[^\\-])*-/s], ['escape in a class', qr/^\[.*\\/s],
@@ -261,9 +285,9 @@ my @CONSTRUCTS = (
 );
 
 sub constructs {
-    my ($text) = @_;
-    my ($last, %has) = ('(');
-    for my $token ($text =~ /\\.|\[(?:\[:\w+:\]|\\.|[^\]\\])+\]|\{[\d,]+\}|./gs, ')') {
+    my ($case) = @_;
+    my ($last, %has) = ('(', map { $_ => 1 } @{$case->{has}});
+    for my $token ($case->{ours} =~ /\\.|\[(?:\[:\w+:\]|\\.|[^\]\\])+\]|\{[\d,]+\}|./gs, ')') {
         $has{$_->[0]} = 1 for grep { $token =~ $_->[1] } @CONSTRUCTS;
         $has{'empty sequence'} = 1 if $last =~ /^[(|]$/ && $token =~ /^[|)]$/;
         $has{'repeat of a group'} = 1 if $last eq ')' && $token =~ /^[*+?{]/;
