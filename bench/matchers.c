@@ -1,6 +1,8 @@
-/* Times one engine on one pattern: matchers ENGINE PATTERN UNIT END LENGTH.., where ENGINE is `yindorka` (both spans) or `glibc` (regexec, the POSIX span). A line of each length is
+/* Times one engine on one pattern: matchers ENGINE PATTERN UNIT END LENGTH.., where ENGINE is `yindorka` (both spans), `fields` (the greedy span with its fields), `glibc` (regexec, the
+ * POSIX span) or `pcre2` (the greedy span with captures; its library is looked for when it is asked for, and needs no header). A line of each length is
  * UNIT over and over, with END at its end. Prints for each length nanoseconds a byte by processor time, the best of the rounds, and how much longer the line took than the
  * one before it in the list, the median of the rounds. Every round times each length in turn, so that a slow moment of the machine falls on neighbours alike. */
+#include <dlfcn.h>
 #include <regex.h>
 #include <stdio.h>
 #include <stdlib.h>
@@ -12,6 +14,7 @@ enum { ROUNDS = 25, MOST = 32 };
 static const double BATCH = 3e6; /* nanoseconds that a batch takes at least */
 
 static yindorka_tables tables;
+static yindorka_field_tables field_tables;
 static regex_t expression;
 static volatile size_t sink;
 
@@ -33,6 +36,68 @@ static void posix_span(const uint8_t *line, size_t length)
     regmatch_t whole[1] = {{0, 0}};
     (void)length;
     sink += (size_t)regexec(&expression, (const char *)line, 1, whole, 0) + (size_t)whole[0].rm_eo;
+}
+
+static void fields(const uint8_t *line, size_t length)
+{
+    size_t span[2] = {0, 0};
+    yindorka_field all[8] = {{0, 0}};
+    sink += (size_t)yindorka_fields(line, length, &field_tables, span, all) + span[1] + all[0].end;
+}
+
+/* PCRE2's calls for bytes, as its documentation has them. */
+static void *(*pcre2_compile)(const uint8_t *, size_t, uint32_t, int *, size_t *, void *);
+static void *(*pcre2_match_data)(const void *, void *);
+static int (*pcre2_match)(const void *, const uint8_t *, size_t, size_t, uint32_t, void *, void *);
+static size_t *(*pcre2_places)(void *);
+static int (*pcre2_jit)(void *, uint32_t);
+static void *pcre2_code, *pcre2_data;
+
+static void captures(const uint8_t *line, size_t length)
+{
+    sink += (size_t)pcre2_match(pcre2_code, line, length, 0, 0, pcre2_data, NULL) + pcre2_places(pcre2_data)[1];
+}
+
+/* Whether the library is there and takes the pattern. Its compiler for the machine is used where it has one. */
+static int open_pcre2(const char *pattern)
+{
+    void *library = dlopen("libpcre2-8.so.0", RTLD_NOW);
+    int error;
+    size_t at;
+    if (!library) {
+        return 0;
+    }
+    *(void **)&pcre2_compile = dlsym(library, "pcre2_compile_8");
+    *(void **)&pcre2_match_data = dlsym(library, "pcre2_match_data_create_from_pattern_8");
+    *(void **)&pcre2_match = dlsym(library, "pcre2_match_8");
+    *(void **)&pcre2_places = dlsym(library, "pcre2_get_ovector_pointer_8");
+    *(void **)&pcre2_jit = dlsym(library, "pcre2_jit_compile_8");
+    if (!pcre2_compile || !pcre2_match_data || !pcre2_match || !pcre2_places || !pcre2_jit) {
+        return 0;
+    }
+    pcre2_code = pcre2_compile((const uint8_t *)pattern, strlen(pattern), 0, &error, &at, NULL);
+    if (!pcre2_code) {
+        return 0;
+    }
+    pcre2_jit(pcre2_code, 1);
+    pcre2_data = pcre2_match_data(pcre2_code, NULL);
+    return pcre2_data != NULL;
+}
+
+/* The engine of a name, ready for the pattern; none where it is missing or takes no such pattern. */
+static void (*engine_of(const char *name, const char *pattern))(const uint8_t *, size_t)
+{
+    const uint8_t *bytes = (const uint8_t *)pattern;
+    if (strcmp(name, "yindorka") == 0) {
+        return yindorka_read(bytes, strlen(pattern), &tables).number == 0 ? both_spans : NULL;
+    }
+    if (strcmp(name, "fields") == 0) {
+        return yindorka_read_fields(bytes, strlen(pattern), &field_tables).number == 0 ? fields : NULL;
+    }
+    if (strcmp(name, "pcre2") == 0) {
+        return open_pcre2(pattern) ? captures : NULL;
+    }
+    return regcomp(&expression, pattern, REG_EXTENDED) == 0 ? posix_span : NULL;
 }
 
 static uint8_t *line_of(const char *unit, const char *end, size_t length)
@@ -83,8 +148,8 @@ int main(int n, char **words)
     if (count == 0 || count > MOST) {
         return 2;
     }
-    int ours = strcmp(words[1], "yindorka") == 0;
-    if (ours ? yindorka_read((const uint8_t *)words[2], strlen(words[2]), &tables).number != 0 : regcomp(&expression, words[2], REG_EXTENDED) != 0) {
+    void (*engine)(const uint8_t *, size_t) = engine_of(words[1], words[2]);
+    if (!engine) {
         return 3;
     }
     for (size_t k = 0; k < count; k++) {
@@ -95,7 +160,7 @@ int main(int n, char **words)
     for (int round = 0; round < ROUNDS; round++) {
         double before = 0;
         for (size_t k = 0; k < count; k++) {
-            double t = batch(ours ? both_spans : posix_span, lines[k], lengths[k], &times[k]);
+            double t = batch(engine, lines[k], lengths[k], &times[k]);
             double whole = t * (double)lengths[k];
             best[k] = round == 0 || t < best[k] ? t : best[k];
             growth[k][round] = k == 0 ? 0 : whole / before;

@@ -1,4 +1,4 @@
-/* Yindorka for C: both readings of a line, and the checker.
+/* Yindorka for C: both readings of a line, the fields of the greedy one, and the checker.
  *
  * Every function is proved to meet the promise beside it, for every content of every buffer (crates/yindorka/src/lib.rt has the contracts).
  * No function allocates, keeps a state between calls or writes anywhere but to the buffers named; so each may be called from any number of threads,
@@ -19,8 +19,8 @@
 #include <stdint.h>
 
 /* The version of this header: 10,000 times the first number, 100 times the second, and the third. */
-#define YINDORKA_VERSION "1.1.0"
-#define YINDORKA_VERSION_NUMBER 10100
+#define YINDORKA_VERSION "1.2.0"
+#define YINDORKA_VERSION_NUMBER 10200
 
 #ifdef __cplusplus
 extern "C" {
@@ -51,6 +51,39 @@ typedef struct {
     size_t place;
 } yindorka_refusal;
 
+/* The tables of an accepted pattern for fields: filled by yindorka_read_fields, read by yindorka_fields. marks has for each outcome of a row the fields that are opened
+ * and closed on the way to it; count is how many fields the pattern has, at most 8. */
+typedef struct {
+    yindorka_tables tables;
+    uint16_t marks[4225];
+    size_t count;
+} yindorka_field_tables;
+
+#define YINDORKA_FIELD_TABLES_SIZE 17472
+
+/* What the bracket of a field takes of a line, from its start to before its end; both are YINDORKA_ABSENT if the field is absent. */
+typedef struct {
+    size_t start;
+    size_t end;
+} yindorka_field;
+
+#define YINDORKA_ABSENT SIZE_MAX
+
+/* number 0: accepted, with count fields. Else the pattern is refused with that number (1 to 8 or 12) at that place, and count is 0. */
+typedef struct {
+    size_t number;
+    size_t place;
+    size_t count;
+} yindorka_fields_refusal;
+
+/* found 1: the greedy span. Bit f - 1 of known: field f has a start; bit f + 7: it has an end. It has both or neither. found 0: no part of the line matches. */
+typedef struct {
+    size_t found;
+    size_t start;
+    size_t end;
+    size_t known;
+} yindorka_spanned;
+
 /* kind 0, alike: no line of any length is cut differently; first is the number of records.
  * kind 1, unlike: first is the number of records, second the length of the first line that is cut differently.
  * kind 2, refused: first is the number (1 to 8, 10 or 11), second the place. */
@@ -60,11 +93,17 @@ typedef struct {
     size_t second;
 } yindorka_outcome;
 
-/* The functions as the library has them. yindorka_read and yindorka_spans below are easier to call. */
+/* The functions as the library has them. yindorka_read, yindorka_spans, yindorka_read_fields and yindorka_fields below are easier to call. */
 yindorka_refusal yindorka_prepare(const uint8_t *pattern, size_t pattern_length, uint64_t masks[256], uint8_t rows[4225], uint8_t lens[65], uint64_t sets[65],
                                   uint8_t ends[65], uint64_t next[257], uint8_t hows[10]);
 size_t yindorka_cut(const uint8_t *line, size_t line_length, const uint64_t masks[256], const uint8_t rows[4225], const uint8_t lens[65], const uint64_t sets[65],
                     const uint8_t ends[65], const uint64_t next[257], const uint8_t hows[10], size_t spans[3]);
+
+yindorka_fields_refusal yindorka_prepare_fields(const uint8_t *pattern, size_t pattern_length, uint64_t masks[256], uint8_t rows[4225], uint8_t lens[65], uint64_t sets[65],
+                                                uint8_t ends[65], uint64_t next[257], uint8_t hows[10], uint16_t marks[4225]);
+yindorka_spanned yindorka_cut_fields(const uint8_t *line, size_t line_length, const uint64_t masks[256], const uint8_t rows[4225], const uint8_t lens[65],
+                                     const uint64_t sets[65], const uint8_t ends[65], const uint64_t next[257], const uint8_t hows[10], const uint16_t marks[4225],
+                                     size_t places[16]);
 
 /* Decides whether a greedy and a POSIX reading of the pattern can ever cut a line differently.
  * Writes: the table, whose slots are its length divided by 64, at most 65,535: the records found, from its start on, the rest kept; the witness buffer, only for
@@ -83,6 +122,43 @@ static inline yindorka_refusal yindorka_read(const uint8_t *pattern, size_t leng
 static inline int yindorka_spans(const uint8_t *line, size_t length, const yindorka_tables *t, size_t spans[3])
 {
     return (int)yindorka_cut(line, length, t->masks, t->rows, t->lens, t->sets, t->ends, t->next, t->hows, spans);
+}
+
+/* Fields. Field 1 is the pattern's first opening (, field 2 the second, and so on; every ( counts but \( and one in a class. A field is what its bracket took in the last
+ * turn along the most preferred way of the greedy reading; it is absent if that way never enters the bracket. An empty turn is a turn: it starts and ends at one place.
+ * A field keeps its last turn although a later turn of a bracket around it does not enter it: by (a|(b))* on ba field 1 is a and field 2 is b. The copies that a repeat
+ * is written out to belong to one field, and under {0} a field is always absent. More than eight ( in an accepted pattern are refused with 12, at the ninth. */
+
+/* Reads a pattern for fields. A refused pattern leaves the tables as they are. */
+static inline yindorka_fields_refusal yindorka_read_fields(const uint8_t *pattern, size_t length, yindorka_field_tables *t)
+{
+    yindorka_tables *own = &t->tables;
+    yindorka_fields_refusal refusal = yindorka_prepare_fields(pattern, length, own->masks, own->rows, own->lens, own->sets, own->ends, own->next, own->hows, t->marks);
+
+    if (refusal.number == 0)
+        t->count = refusal.count;
+    return refusal;
+}
+
+/* The greedy span of a line of any length and its fields, by the tables of an accepted pattern: 1, with its start in span[0] and its end in span[1], and each of the
+ * eight fields, those that the pattern has not being absent; or 0, and both kept, if no part of the line matches. Linear in the line. */
+static inline int yindorka_fields(const uint8_t *line, size_t length, const yindorka_field_tables *t, size_t span[2], yindorka_field fields[8])
+{
+    const yindorka_tables *own = &t->tables;
+    size_t places[16];
+    yindorka_spanned x = yindorka_cut_fields(line, length, own->masks, own->rows, own->lens, own->sets, own->ends, own->next, own->hows, t->marks, places);
+
+    if (x.found != 1)
+        return 0;
+    span[0] = x.start;
+    span[1] = x.end;
+    for (size_t f = 0; f < 8; f++) {
+        int there = (x.known >> f & 1) && (x.known >> (f + 8) & 1);
+
+        fields[f].start = there ? places[f] : YINDORKA_ABSENT;
+        fields[f].end = there ? places[f + 8] : YINDORKA_ABSENT;
+    }
+    return 1;
 }
 
 #ifdef __cplusplus

@@ -1,4 +1,4 @@
-# The cases of tests/engines: patterns, each in three spellings (ours, Perl's, glibc's), with lines. All small patterns over two bytes (`small_cases`) and random
+# The cases of tests/engines: patterns, each in four spellings (ours, Perl's without and with captures, glibc's), with lines. All small patterns over two bytes (`small_cases`) and random
 # ones of every construct within the limits (`random_case`).
 #
 # The spellings differ in leaves, groups and counts. For Perl every byte is an escape, so that none is special, every class and `.` lists ranges of escapes, so that
@@ -9,6 +9,9 @@
 # well, which the paper only writes out: `(|a|aaa){0,2}(ab|bc)` on `aaabc` has the greedy span 0 5 by the paper, 0 4 by Perl's count. So for Perl such a count is
 # written out. `?`, `{m}` and `{m,}` are not: in the first m turns Perl does not look for an empty one, and where the last of these is empty, the turns that the
 # paper adds end where Perl's other choices for it do, in the same order. To glibc, as to the paper, an empty turn adds nothing: no POSIX span is left out.
+#
+# Fields are compared where Perl's captures are the paper's fields by definition: at most eight brackets, no repeat over a part that matches the empty string, and no
+# repeat of which a turn may leave out a bracket inside, since what such a bracket keeps is Perl's own affair.
 use strict;
 use warnings;
 use List::Util qw(max min product sum0);
@@ -38,7 +41,8 @@ my $blank;
 sub pick { return $_[rand @_] }
 
 # ---- Parts of a pattern: kind, three spellings, in how many ways it matches the empty string without a turn of a loop, the most such ways of it or a part of it,
-# constructs that its text does not show, weight, and a sub that gives a sample of what it matches.
+# constructs that its text does not show, weight, a sub that gives a sample of what it matches, how many brackets it has, whether a match may leave one out, and
+# whether a later turn may.
 
 # A set for glibc: `]` first, `-` last, `^` before it; the rest ascends, so that no `[` stands before `.`, `:` or `=`. Byte 0, which regcomp cannot be given, is in
 # a set by not being listed; to hold all bytes or none takes two leaves. glibc's own `.` would not do: it takes 10 and not 0.
@@ -64,8 +68,8 @@ sub leaf {
     my $others = $members =~ tr/\n//dr;
     return {
         kind => 'leaf', ours => $text, posix => bracket_expression($members),
-        perl => $negated ? "[^$escapes]" : length $listed == 1 ? sprintf('\x{%x}', ord $listed) : "[$escapes]", empty => 0, widest => 0, has => [],
-        weight => 1, sample => sub { my $from = $own ne '' && rand() < 0.8 ? $own : $others; substr $from, rand length $from, 1 },
+        map({ $_ => $negated ? "[^$escapes]" : length $listed == 1 ? sprintf('\x{%x}', ord $listed) : "[$escapes]" } qw(perl caught)), empty => 0, widest => 0, has => [],
+        weight => 1, brackets => 0, skips => 0, left => 0, sample => sub { my $from = $own ne '' && rand() < 0.8 ? $own : $others; substr $from, rand length $from, 1 },
     };
 }
 
@@ -76,14 +80,21 @@ sub byte {
 
 sub spellings {
     my ($by, @parts) = @_;
-    return map { my $for = $_; $for => join $by, map { $_->{$for} } @parts } qw(ours perl posix);
+    return map { my $for = $_; $for => join $by, map { $_->{$for} } @parts } qw(ours perl caught posix);
+}
+
+# What the brackets of parts come to together; `either` where only one of the parts is in a match.
+sub bracketing {
+    my ($either, @parts) = @_;
+    my $brackets = sum0(map { $_->{brackets} } @parts);
+    return (brackets => $brackets, skips => $either && @parts > 1 ? $brackets > 0 : !!grep({ $_->{skips} } @parts), left => !!grep { $_->{left} } @parts);
 }
 
 sub sequence {
     my @atoms = @_;
     my @ways = map { $_->{empty} || () } @atoms;
     return {
-        kind => 'sequence', @atoms ? spellings('', @atoms) : (ours => '', perl => '', posix => '()'), empty => @ways == @atoms && product(@ways),
+        kind => 'sequence', @atoms ? spellings('', @atoms) : (ours => '', perl => '', caught => '', posix => '()'), bracketing(0, @atoms), empty => @ways == @atoms && product(@ways),
         widest => max(product(@ways), map { $_->{widest} } @atoms), has => [map { @{$_->{has}} } @atoms],
         weight => sum0(map { $_->{weight} } @atoms) || 1, sample => sub { join '', map { $_->{sample}->() } @atoms },
     };
@@ -93,14 +104,17 @@ sub alternation {
     my @sequences = @_;
     my $ways = sum0(map { $_->{empty} } @sequences);
     return {
-        kind => 'alternation', spellings('|', @sequences), empty => $ways, widest => max($ways, map { $_->{widest} } @sequences),
+        kind => 'alternation', spellings('|', @sequences), bracketing(1, @sequences), empty => $ways, widest => max($ways, map { $_->{widest} } @sequences),
         has => [map { @{$_->{has}} } @sequences], weight => sum0(map { $_->{weight} } @sequences), sample => sub { pick(@sequences)->{sample}->() },
     };
 }
 
 sub group {
     my ($part) = @_;
-    return { %$part, kind => 'group', ours => "($part->{ours})", perl => "(?:$part->{perl})", posix => "($part->{posix})" };
+    return {
+        %$part, kind => 'group', ours => "($part->{ours})", perl => "(?:$part->{perl})", caught => "($part->{caught})", posix => "($part->{posix})",
+        brackets => 1 + $part->{brackets},
+    };
 }
 
 # Without a most there is no bound.
@@ -118,7 +132,8 @@ sub repeat {
         return join '', map { $atom->{sample}->() } 1 .. $times;
     };
     return {
-        kind => 'repeat', ours => $atom->{ours} . $sign, perl => $perl, posix => $atom->{posix} . $plain, empty => $ways, widest => max($ways, $atom->{widest}),
+        kind => 'repeat', ours => $atom->{ours} . $sign, perl => $perl, caught => $atom->{caught} . $plain, posix => $atom->{posix} . $plain,
+        brackets => $atom->{brackets}, skips => $least ? $atom->{skips} : $atom->{brackets} > 0, left => $atom->{left} || $atom->{skips} && ($most // 2) > 1, empty => $ways, widest => max($ways, $atom->{widest}),
         has => [@{$atom->{has}}, $atom->{empty} ? 'repeat of a part that matches empty' : (), $more ? 'count written out for Perl' : ()],
         weight => $atom->{weight} * ($most // $least + 1) || 1, sample => $sample,
     };
@@ -253,7 +268,8 @@ sub short_lines {
 
 sub case_of {
     my ($pattern, $lines) = @_;
-    return { map({ $_ => $pattern->{$_} } qw(ours perl posix has)), lines => $lines };
+    my $alike = $pattern->{brackets} && $pattern->{brackets} <= 8 && !$pattern->{left} && !grep { $_ eq 'repeat of a part that matches empty' } @{$pattern->{has}};
+    return { map({ $_ => $pattern->{$_} } qw(ours perl posix has)), $alike ? (caught => $pattern->{caught}) : (), lines => $lines };
 }
 
 sub random_case {

@@ -1,5 +1,6 @@
-// The checker as C calls it, for tests/requests. Standard input has a call a line: 'PATTERN TABLE WITNESS', that is the pattern in hex ('-' if it is empty) and how
-// many bytes of table and witness buffer are lent. Before the call every byte of the table is aa and every byte of the witness buffer bb, and guard bytes stand before
+// The library as C calls it, for tests/requests. Standard input has a call a line, patterns and lines in hex ('-' if one is empty).
+// 'fields PATTERN LINE' prints 'refused NUMBER PLACE', 'none', or 'span START END' and for each field its start and end or 'absent'.
+// 'check PATTERN TABLE WITNESS' calls the checker, with how many bytes of table and witness buffer are lent. Before the call every byte of the table is aa and every byte of the witness buffer bb, and guard bytes stand before
 // and behind both. Prints for each call, on one line, the result as the checker program has it, then the table and the witness buffer in hex ('-' if one is empty),
 // each after ' : ', and ' : guard bytes changed' if some are.
 #include <stdio.h>
@@ -103,27 +104,67 @@ static size_t read_hex(const char *hex, uint8_t *bytes)
     return n;
 }
 
+static void print_fields(const uint8_t *pattern, size_t pattern_length, const uint8_t *line, size_t length)
+{
+    static yindorka_field_tables tables;
+    yindorka_fields_refusal refusal = yindorka_read_fields(pattern, pattern_length, &tables);
+    yindorka_field fields[8];
+    size_t span[2];
+
+    if (refusal.number) {
+        printf("refused %zu %zu\n", refusal.number, refusal.place);
+        return;
+    }
+    if (!yindorka_fields(line, length, &tables, span, fields)) {
+        puts("none");
+        return;
+    }
+    printf("span %zu %zu", span[0], span[1]);
+    for (size_t f = 0; f < tables.count; f++)
+        if (fields[f].start == YINDORKA_ABSENT)
+            printf(" absent");
+        else
+            printf(" %zu %zu", fields[f].start, fields[f].end);
+    for (size_t f = tables.count; f < 8; f++)
+        if (fields[f].start != YINDORKA_ABSENT || fields[f].end != YINDORKA_ABSENT)
+            printf(" and a field too many");
+    putchar('\n');
+}
+
+static int check(char *pattern_hex, const char *table_length, const char *witness_length)
+{
+    uint8_t *pattern = room(strlen(pattern_hex) + 1);
+    size_t length = read_hex(pattern_hex, pattern);
+    buffer table = lend(strtoul(table_length, NULL, 10), TABLE_BYTE), witness = lend(strtoul(witness_length, NULL, 10), WITNESS_BYTE);
+
+    call(pattern, length, table, witness);
+    give_back(table);
+    give_back(witness);
+    free(pattern);
+    return 1;
+}
+
+static int fields(char *pattern_hex, char *line_hex)
+{
+    uint8_t *pattern = room(strlen(pattern_hex) + 1), *line = room(strlen(line_hex) + 1);
+    size_t length = read_hex(pattern_hex, pattern);
+
+    print_fields(pattern, length, line, read_hex(line_hex, line));
+    free(pattern);
+    free(line);
+    return 1;
+}
+
 int main(void)
 {
     char *line = NULL;
-    size_t size = 0, table_length, witness_length;
+    size_t size = 0;
 
     while (getline(&line, &size, stdin) >= 0) {
-        char *lengths = strchr(line, ' ');
-        uint8_t *pattern = room(strlen(line) + 1);
-        size_t length;
-        buffer table, witness;
+        char *what = strtok(line, " \n"), *first = strtok(NULL, " \n"), *second = strtok(NULL, " \n"), *third = strtok(NULL, " \n");
 
-        if (!lengths || sscanf(lengths, "%zu %zu", &table_length, &witness_length) != 2)
+        if (!second || (strcmp(what, "fields") == 0 ? !fields(first, second) : !third || !check(first, second, third)))
             return 2;
-        *lengths = 0;
-        length = read_hex(line, pattern);
-        table = lend(table_length, TABLE_BYTE);
-        witness = lend(witness_length, WITNESS_BYTE);
-        call(pattern, length, table, witness);
-        give_back(table);
-        give_back(witness);
-        free(pattern);
     }
     free(line);
     return 0;

@@ -1,7 +1,8 @@
 """A slow, obvious reading of paper 01, apart from the product. It makes the expected results of the case files.
 
 read(p) -> ('refused', number, place) or ('accepted', written-out pattern). A written-out pattern is ('empty',), ('leaf', set of bytes),
-('seq', x, y), ('alt', x, y) or ('star', x)."""
+('seq', x, y), ('alt', x, y), ('star', x) or ('field', x, number): the first eight brackets are fields (request 2 of paper 02).
+openings(p) -> the places of an accepted pattern's opening brackets."""
 
 SPECIAL = b'\\|()[]{}*+?.^$'
 INNER = b'\\][^-'
@@ -23,7 +24,7 @@ class Refused(Exception):
 
 class Reader:
     def __init__(self, p):
-        self.p, self.i, self.depth, self.heaviest = p, 0, 0, 0
+        self.p, self.i, self.depth, self.heaviest, self.opened = p, 0, 0, 0, []
 
     def peek(self):
         return self.p[self.i] if self.i < len(self.p) else None
@@ -67,12 +68,14 @@ class Reader:
                 self.refuse(7, at)
             self.depth += 1
             self.i += 1
-            inner = self.alternation()
+            self.opened.append(at)
+            field = len(self.opened)
+            tree, weight = self.alternation()
             if self.peek() is None:
                 self.refuse(6, len(self.p))
             self.i += 1
             self.depth -= 1
-            return inner
+            return (('field', tree, field) if field <= 8 else tree), weight
         if c == ord('['):
             return ('leaf', self.klass(at)), 1
         if c == ord('.'):
@@ -185,12 +188,23 @@ def read(p):
         return ('refused', *r.args)
 
 
+def openings(p):
+    reader = Reader(p)
+    reader.whole()
+    return reader.opened
+
+
+def below(r):
+    """The parts that a part has."""
+    return {'empty': r[1:], 'leaf': (), 'seq': r[1:], 'alt': r[1:], 'star': r[1:], 'field': r[1:2]}[r[0]]
+
+
 def leaves(r):
-    return [r[1]] if r[0] == 'leaf' else [s for x in r[1:] for s in leaves(x)]
+    return [r[1]] if r[0] == 'leaf' else [s for x in below(r) for s in leaves(x)]
 
 
 def parts(r):
-    return 1 if r[0] in ('empty', 'leaf') else 1 + sum(parts(x) for x in r[1:])
+    return 1 + sum(parts(x) for x in below(r))
 
 
 def shown(p):

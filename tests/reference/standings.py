@@ -2,7 +2,7 @@
 paper01.py's.
 
 check(pattern, table, witness) -> (line that the checker program prints, table afterwards, witness buffer afterwards)."""
-from paper01 import leaves, read
+from paper01 import below, leaves, read
 
 
 def numbered(r, n=0):
@@ -10,10 +10,10 @@ def numbered(r, n=0):
     if r[0] == 'leaf':
         return ('leaf', r[1], n), n + 1
     parts = []
-    for x in r[1:]:
+    for x in below(r):
         x, n = numbered(x, n)
         parts.append(x)
-    return (r[0], *parts), n
+    return (r[0], *parts, *r[1 + len(parts):]), n
 
 
 def outcomes(r, line):
@@ -43,6 +43,8 @@ def outcomes(r, line):
             return after(r[2], of(r[1], i))
         if r[0] == 'alt':
             return of(r[1], i) + of(r[2], i)
+        if r[0] == 'field':
+            return of(r[1], i)
         # A repeat. Request 1 of paper 02: an empty turn's end stays in its place, as the repeat's.
         turns = [o for x in of(r[1], i) for o in ([x] if x == ('ends', i) else after(r, [x]))]
         return turns + [('ends', i)]

@@ -9,10 +9,10 @@ use native.Mathlib.Omega.{arith}
 use native.Mathlib.Decide.{decLt}
 use lib.ListN.{getD}
 use lib.Dec.{T, eqb, eqb→eq, eqb-refl, ltb, lt→ltb}
-use Rattle.theory.specs.Pattern.{Re, empty, leaf, seq, alt, star, count, Numbered, has}
+use Rattle.theory.specs.Pattern.{Re, empty, leaf, seq, alt, star, field, count, Numbered, has}
 use Rattle.theory.proofs.Tests.{T-true, same-test, or-left, or-right, or-cases, either}
-use Rattle.theory.proofs.Equations.{Leaf, seq-left, seq-right, alt-left, alt-right, under}
-use Rattle.grammar.specs.Code.Codes.{PartKind, anEmpty, aSequence, anAlternation, aStar, aLeaf, partKind}
+use Rattle.theory.proofs.Equations.{Leaf, seq-left, seq-right, alt-left, alt-right, under, inside}
+use Rattle.grammar.specs.Code.Codes.{PartKind, anEmpty, aSequence, anAlternation, aStar, aField, aLeaf, partKind}
 use Rattle.arrays.specs.declared.Pattern.{Pattern}
 use Rattle.words.specs.Sets.{hasBit}
 use Rattle.arrays.specs.Decoded.{leafOf, middle, partOf, part, decode}
@@ -28,6 +28,7 @@ data ByMasks (masks : List ℕ) : Re → Type 0 where
   two-seq : {x y : Re} → ByMasks masks x → ByMasks masks y → ByMasks masks (seq x y)
   two-alt : {x y : Re} → ByMasks masks x → ByMasks masks y → ByMasks masks (alt x y)
   below : {x : Re} → ByMasks masks x → ByMasks masks (star x)
+  within : {f : ℕ} {x : Re} → ByMasks masks x → ByMasks masks (field f x)
 
 leaf-by : (masks : List ℕ) (p : ℕ) → ByMasks masks (leafOf masks p)
 leaf-by masks p = go (ltb p 64)
@@ -41,6 +42,7 @@ part-of-by masks anEmpty a b c = no-leaf
 part-of-by masks aSequence a b c = two-seq b c
 part-of-by masks anAlternation a b c = two-alt b c
 part-of-by masks aStar a b c = below a
+part-of-by masks (aField f) a b c = within a
 part-of-by masks (aLeaf p) a b c = leaf-by masks p
 
 part-by : (f : ℕ) (kinds sizes masks : List ℕ) (low end : ℕ) → ByMasks masks (part f kinds sizes masks low end)
@@ -66,6 +68,7 @@ module _ {masks : List ℕ} (p b : ℕ) where
   has-held (two-seq {x = x} {y = y} a c) t = either (λ l. has-held a l) (λ l. has-held c l) (or-cases (has x p b) (has y p b) t)
   has-held (two-alt {x = x} {y = y} a c) t = either (λ l. has-held a l) (λ l. has-held c l) (or-cases (has x p b) (has y p b) t)
   has-held (below a) t = has-held a t
+  has-held (within a) t = has-held a t
 
   held-has : {r : Re} → ByMasks masks r → Leaf r p → T (held masks p b) → T (has r p b)
   unfolding has
@@ -75,6 +78,7 @@ module _ {masks : List ℕ} (p b : ℕ) where
   held-has (two-alt {x = x} {y = y} a c) (alt-left l) t = or-left (has x p b) (has y p b) (held-has a l t)
   held-has (two-alt {x = x} {y = y} a c) (alt-right l) t = or-right (has x p b) (has y p b) (held-has c l t)
   held-has (below a) (under l) t = held-has a l t
+  held-has (within a) (inside l) t = held-has a l t
 
 -- A part numbered from n has each leaf from n on, as many as it has.
 numbered-leaf : (r : Re) (n p : ℕ) → Numbered n r → n ≤ p → p < n + count r → Leaf r p
@@ -92,6 +96,7 @@ numbered-leaf (alt x y) n p d g h =
       | no l ↦ alt-right (numbered-leaf y (n + count x) p (d .1) (omega arith) (omega arith))
     ]
 numbered-leaf (star x) n p d g h = under (numbered-leaf x n p d g h)
+numbered-leaf (field f x) n p d g h = inside (numbered-leaf x n p d g h)
 
 -- THE MASKS ARE THE LEAVES' SETS.
 pub masks-hold : (x : Pattern) → Numbered 0 (decode x) → (b p : ℕ) → b < 256 → p < count (decode x) → hasBit (getD (x .masks) b 0) p ≡ has (decode x) p b

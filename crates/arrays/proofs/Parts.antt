@@ -7,11 +7,13 @@ use Prim.Native.Nat.{ℕ, zero, suc, _+_, _-_, _<_, _≤_}
 use native.Mathlib.Omega.{arith}
 use lib.ListN.{length, getD, drop, length-append}
 use lib.Dec.{ltb}
-use borrow.Author.Tests.{lt-ltb, le-ltb, le-leb, ne-eqb, ltb-true}
-use Rattle.theory.specs.Pattern.{Re, empty, leaf, seq, alt, star}
+use borrow.Author.Tests.{lt-ltb, le-ltb, le-leb, lt-leb, ne-eqb, ltb-true}
+use Rattle.theory.specs.Pattern.{Re, empty, leaf, seq, alt, star, field}
 use Rattle.grammar.specs.Code.Tokens.{nodes, Token, nil, both, or, many, byte, tokens}
-use Rattle.grammar.specs.Code.Codes.{PartKind, anEmpty, aSequence, anAlternation, aStar, aLeaf, partKind, leafHolds}
-use Rattle.grammar.proofs.Tokens.{nodes-pos, At, at, at-token, head, seq-right, seq-left, alt-right, alt-left, star-part, tokens-length}
+use Rattle.grammar.specs.Code.Tokens
+use Rattle.grammar.specs.Code.Codes.{PartKind, anEmpty, aSequence, anAlternation, aStar, aField, aLeaf, partKind, firstField, firstLeaf, leafHolds}
+use Rattle.grammar.proofs.Codes.{kind-field, kind-leaf, Kinded, is-empty, is-sequence, is-alternation, is-star, is-field, is-leaf, kinded}
+use Rattle.grammar.proofs.Tokens.{nodes-pos, At, at, at-token, head, seq-right, seq-left, alt-right, alt-left, star-part, field-part, tokens-length}
 use Rattle.words.specs.Sets.{hasBit}
 use Rattle.arrays.specs.Decoded.{middle, partOf, part}
 use Rattle.arrays.specs.Passes.{leftSize, sizeOf, Sized, Masked}
@@ -22,6 +24,7 @@ tokenAt s places anEmpty = nil
 tokenAt s places aSequence = both
 tokenAt s places anAlternation = or
 tokenAt s places aStar = many
+tokenAt s places (aField f) = Tokens.field f
 tokenAt s places (aLeaf p) = byte p (λ b. ltb b 256 && leafHolds (drop (getD places p 0) s) b)
 
 abbrev pub kindToken : List ℕ → List ℕ → ℕ → Token
@@ -33,6 +36,7 @@ tokenPart nil whole left right = empty
 tokenPart both whole left right = seq left right
 tokenPart or whole left right = alt left right
 tokenPart many whole left right = star whole
+tokenPart (Tokens.field f) whole left right = field f whole
 tokenPart (byte p s) whole left right = leaf p s
 
 -- Its size.
@@ -41,14 +45,20 @@ tokenSize nil a b = 1
 tokenSize both a b = a + b + 1
 tokenSize or a b = a + b + 1
 tokenSize many a b = a + 1
+tokenSize (Tokens.field f) a b = a + 1
 tokenSize (byte p s) a b = 1
 
 size-token : (s places : List ℕ) (k a b : ℕ) → sizeOf k a b ≡ tokenSize (kindToken s places k) a b
-size-token s places zero a b = refl
-size-token s places (suc zero) a b = refl
-size-token s places (suc (suc zero)) a b = refl
-size-token s places (suc (suc (suc zero))) a b = refl
-size-token s places (suc (suc (suc (suc p)))) a b = rw (ne-eqb (suc (suc (suc (suc p)))) 0 (λ e. omega arith), lt-ltb 3 (suc (suc (suc (suc p)))) (omega arith))
+size-token s places k a b = go (kinded k)
+  where
+    go : {k : ℕ} → Kinded k → sizeOf k a b ≡ tokenSize (kindToken s places k) a b
+    go is-empty = refl
+    go is-sequence = refl
+    go is-alternation = refl
+    go is-star = refl
+    go (is-field n h) =
+        rw (kind-field n h, ne-eqb (firstField + n) 0 (λ e. omega arith), lt-leb firstLeaf (firstField + n) (omega arith), le-leb 3 (firstField + n) (omega arith))
+    go (is-leaf q) = rw (kind-leaf q, ne-eqb (firstLeaf + q) 0 (λ e. omega arith), le-leb firstLeaf (firstLeaf + q) (omega arith))
 
 -- Two sets of bytes that agree below 256.
 bytes-same : (s t : ℕ → Bool) → ((b : ℕ) → b < 256 → s b ≡ t b) → _≡_ {A = ℕ → Bool} (λ b. ltb b 256 && s b) (λ b. ltb b 256 && t b)
@@ -58,16 +68,20 @@ bytes-same s t h = fun-ext λ b. go b (ltb b 256) (ltb-true b 256)
     go b true f = h b (f refl)
     go b false f = refl
 
-part-token : (s places masks : List ℕ) (n k : ℕ) (whole left right : Re) → Masked s places (λ p. ltb p n) masks → n ≤ 64 → k < 4 + n
+part-token : (s places masks : List ℕ) (n k : ℕ) (whole left right : Re) → Masked s places (λ p. ltb p n) masks → n ≤ 64 → k < firstLeaf + n
     → partOf masks (partKind k) whole left right ≡ tokenPart (kindToken s places k) whole left right
-part-token s places masks n zero whole left right h m b = refl
-part-token s places masks n (suc zero) whole left right h m b = refl
-part-token s places masks n (suc (suc zero)) whole left right h m b = refl
-part-token s places masks n (suc (suc (suc zero))) whole left right h m b = refl
-part-token s places masks n (suc (suc (suc (suc p)))) whole left right h m b =
-    let t : ltb p n ≡ true = lt-ltb p n (omega arith) in
-    rw (lt-ltb p 64 (omega arith))
-    (ap (leaf p) (bytes-same (λ c. hasBit (getD masks c 0) p) (λ c. leafHolds (drop (getD places p 0) s) c) (λ c l. h c p l ∙ rw t)))
+part-token s places masks n k whole left right h m b = go (kinded k) b
+  where
+    go : {k : ℕ} → Kinded k → k < firstLeaf + n → partOf masks (partKind k) whole left right ≡ tokenPart (kindToken s places k) whole left right
+    go is-empty b = refl
+    go is-sequence b = refl
+    go is-alternation b = refl
+    go is-star b = refl
+    go (is-field i l) b = rw (kind-field i l)
+    go (is-leaf p) b =
+        let t : ltb p n ≡ true = lt-ltb p n (omega arith) in
+        rw (kind-leaf p, lt-ltb p 64 (omega arith))
+        (ap (leaf p) (bytes-same (λ c. hasBit (getD masks c 0) p) (λ c. leafHolds (drop (getD places p 0) s) c) (λ c l. h c p l ∙ rw t)))
 
 -- A part that ends at a place of the list stands within it.
 at-fits : {l : List Token} {n : ℕ} {r : Re} → At l n r → (nodes r ≤ suc n) × (n < length l)
@@ -80,7 +94,7 @@ one-more n m = omega arith
 -- The arrays, over the tokens l.
 module _
     (l : List Token) (s places kinds sizes masks : List ℕ) (n leaves : ℕ) (long : length l ≡ n) (most : leaves ≤ 64)
-    (kinds-are : (i : ℕ) → i < n → kindToken s places (getD kinds i 0) ≡ getD l i nil) (below : (i : ℕ) → i < n → getD kinds i 0 < 4 + leaves)
+    (kinds-are : (i : ℕ) → i < n → kindToken s places (getD kinds i 0) ≡ getD l i nil) (below : (i : ℕ) → i < n → getD kinds i 0 < firstLeaf + leaves)
     (sized : Sized kinds n sizes) (masked : Masked s places (λ p. ltb p leaves) masks) where
   kind-head : (i : ℕ) (r : Re) → At l i r → kindToken s places (getD kinds i 0) ≡ head r
   kind-head i r w = kinds-are i (omega (arith, at-fits w .1)) ∙ at-token l i r w
@@ -115,6 +129,8 @@ module _
       (omega (arith, at-fits w .0, nodes-pos x))
   sizes-right (star x) i w =
       size-head i (star x) w (omega (arith, at-fits w .0, nodes-pos x)) ∙ omega (arith, sizes-right x (i - 1) (star-part l i x w))
+  sizes-right (field g x) i w =
+      size-head i (field g x) w (omega (arith, at-fits w .0, nodes-pos x)) ∙ omega (arith, sizes-right x (i - 1) (field-part l i g x w))
 
   -- The part from `low` on, by its last token.
   part-head : (r : Re) (f low end : ℕ) → At l (end - 1) r → low + nodes r ≡ end
@@ -159,3 +175,5 @@ module _
       part-head (alt x y) f low end w h ∙ rw (p .0, p .1)
   part-right (star x) (suc f) low end w h k =
       part-head (star x) f low end w h ∙ ap star (part-right x f low (end - 1) (star-part l (end - 1) x w) (omega arith) (omega arith))
+  part-right (field g x) (suc f) low end w h k =
+      part-head (field g x) f low end w h ∙ ap (field g) (part-right x f low (end - 1) (field-part l (end - 1) g x w) (omega arith) (omega arith))

@@ -12,7 +12,9 @@ use lib.Dec.{ltb}
 use borrow.Author.Tests.{lt-ltb, le-ltb, ltb-true}
 use Rattle.theory.specs.Pattern.{Re, count, number}
 use Rattle.grammar.specs.Code.Tokens.{nodes, nil, both, or, many, byte, tokens, renumber, leafs}
-use Rattle.grammar.specs.Code.Codes.{tokenOf, leafHolds}
+use Rattle.grammar.specs.Code.Tokens
+use Rattle.grammar.specs.Code.Codes.{firstField, firstLeaf, tokenOf, leafHolds}
+use Rattle.grammar.proofs.Codes.{kind-field, kind-leaf, Kinded, is-empty, is-sequence, is-alternation, is-star, is-field, is-leaf, kinded}
 use Rattle.theory.proofs.Numbering.{number-count}
 use Rattle.grammar.proofs.Size.{number-nodes}
 use Rattle.grammar.proofs.Tokens.{nodes-pos, at-whole, tokens-length, tokens-number, leafs-tokens}
@@ -27,21 +29,28 @@ renumbered : (s places l a : List ℕ) (p : ℕ) → length a ≡ p → a ++ pla
     → renumber p (map (tokenOf s) l) ≡ map (kindToken s places) (kindsFrom p l)
 unfolding renumber kindsFrom placesOf
 renumbered s places [] a p h e m = refl
-renumbered s places (zero ∷ l) a p h e m = ap (λ k. nil ∷ k) (renumbered s places l a p h e m)
-renumbered s places (suc zero ∷ l) a p h e m = ap (λ k. both ∷ k) (renumbered s places l a p h e m)
-renumbered s places (suc (suc zero) ∷ l) a p h e m = ap (λ k. or ∷ k) (renumbered s places l a p h e m)
-renumbered s places (suc (suc (suc zero)) ∷ l) a p h e m = ap (λ k. many ∷ k) (renumbered s places l a p h e m)
-renumbered s places (suc (suc (suc (suc q))) ∷ l) a p h e m =
-    let c : ltb (suc (suc (suc (suc q)))) 4 ≡ false = le-ltb (suc (suc (suc (suc q)))) 4 (omega arith) in
-    let z : suc (suc (suc (suc q))) - 4 ≡ q = omega arith in
-    let f : a ++ (q ∷ placesOf l) ≡ places = rw (c, z) at e in
-    let n : length a + suc (length (placesOf l)) ≡ length places = sym (length-append a (q ∷ placesOf l)) ∙ ap length f in
-    let g : getD places p 0 ≡ q = rw (← f) (getD-at a q (placesOf l) 0 p h) in
-    let k : 4 + p ≡ suc (suc (suc (suc p))) = omega arith in
-    let t : p + 1 ≡ suc p = omega arith in
-    rw (c, lt-ltb p 64 (omega arith), k, t, g)
-    (ap (λ u. byte p (λ b. ltb b 256 && leafHolds (drop q s) b) ∷ u)
-    (renumbered s places l (a ++ (q ∷ [])) (suc p) (omega (arith, length-append a (q ∷ []))) (append-assoc a (q ∷ []) (placesOf l) ∙ f) m))
+renumbered s places (c ∷ l) a p h e m = go (kinded c) e (renumbered s places l)
+  where
+    go : {c : ℕ} → Kinded c → a ++ placesOf (c ∷ l) ≡ places
+        → ((a : List ℕ) (p : ℕ) → length a ≡ p → a ++ placesOf l ≡ places → length places ≤ 64 → renumber p (map (tokenOf s) l) ≡ map (kindToken s places) (kindsFrom p l))
+        → renumber p (map (tokenOf s) (c ∷ l)) ≡ map (kindToken s places) (kindsFrom p (c ∷ l))
+    go is-empty e below = ap (λ k. nil ∷ k) (below a p h e m)
+    go is-sequence e below = ap (λ k. both ∷ k) (below a p h e m)
+    go is-alternation e below = ap (λ k. or ∷ k) (below a p h e m)
+    go is-star e below = ap (λ k. many ∷ k) (below a p h e m)
+    go (is-field n g) e below =
+        let t : ltb (firstField + n) firstLeaf ≡ true = lt-ltb (firstField + n) firstLeaf (omega arith) in
+        rw (t, kind-field n g) (ap (λ k. Tokens.field (suc n) ∷ k) (below a p h (rw t at e) m))
+    go (is-leaf q) e below =
+        let c : ltb (firstLeaf + q) firstLeaf ≡ false = le-ltb (firstLeaf + q) firstLeaf (omega arith) in
+        let z : firstLeaf + q - firstLeaf ≡ q = omega arith in
+        let f : a ++ (q ∷ placesOf l) ≡ places = rw (c, z) at e in
+        let n : length a + suc (length (placesOf l)) ≡ length places = sym (length-append a (q ∷ placesOf l)) ∙ ap length f in
+        let g : getD places p 0 ≡ q = rw (← f) (getD-at a q (placesOf l) 0 p h) in
+        let t : p + 1 ≡ suc p = omega arith in
+        rw (c, lt-ltb p 64 (omega arith), kind-leaf q, kind-leaf p, t, g)
+        (ap (λ u. byte p (λ b. ltb b 256 && leafHolds (drop q s) b) ∷ u)
+        (below (a ++ (q ∷ [])) (suc p) (omega (arith, length-append a (q ∷ []))) (append-assoc a (q ∷ []) (placesOf l) ∙ f) m))
 
 length-kinds : (p : ℕ) (l : List ℕ) → length (kindsFrom p l) ≡ length l
 unfolding kindsFrom
@@ -51,11 +60,15 @@ length-kinds p (c ∷ l) = ap suc (length-kinds (leavesWith p c) l)
 length-places : (s l : List ℕ) → length (placesOf l) ≡ leafs (map (tokenOf s) l)
 unfolding placesOf leafs
 length-places s [] = refl
-length-places s (zero ∷ l) = length-places s l
-length-places s (suc zero ∷ l) = length-places s l
-length-places s (suc (suc zero) ∷ l) = length-places s l
-length-places s (suc (suc (suc zero)) ∷ l) = length-places s l
-length-places s (suc (suc (suc (suc q))) ∷ l) = rw (le-ltb (suc (suc (suc (suc q)))) 4 (omega arith)) (ap suc (length-places s l))
+length-places s (c ∷ l) = go (kinded c) (length-places s l)
+  where
+    go : {c : ℕ} → Kinded c → length (placesOf l) ≡ leafs (map (tokenOf s) l) → length (placesOf (c ∷ l)) ≡ leafs (map (tokenOf s) (c ∷ l))
+    go is-empty e = e
+    go is-sequence e = e
+    go is-alternation e = e
+    go is-star e = e
+    go (is-field n h) e = rw (kind-field n h, lt-ltb (firstField + n) firstLeaf (omega arith)) e
+    go (is-leaf q) e = rw (kind-leaf q, le-ltb (firstLeaf + q) firstLeaf (omega arith)) (ap suc e)
 
 -- Only the places of the leaves count.
 masked-taken : (s places masks : List ℕ) (n : ℕ) → Masked s places (λ p. ltb p n) masks → Masked s (take n places) (λ p. ltb p n) masks

@@ -6,7 +6,7 @@ use Prim.Native.Nat.{ℕ, zero, suc, _+_, _-_, _<_, _≤_}
 use native.Mathlib.Omega.{arith}
 use native.Mathlib.Decide.{decLe}
 use lib.ListN.{length, getD, set}
-use lib.Dec.{eqb, ltb}
+use lib.Dec.{eqb, leb}
 use mathlib.Core.Bool.{Bool, true, false, cond}
 use lib.Seq.{getD-set-same, getD-set-other}
 use borrow.Author.Tests.{le-leb, lt-leb}
@@ -44,7 +44,7 @@ size-small kind sizes zero h = omega arith
 size-small kind sizes (suc m) h =
     let e = left-small sizes m h in
     cond-most (eqb kind 0) _ _ (suc m + 1) (omega arith)
-    (cond-most (ltb 3 kind) _ _ (suc m + 1) (omega arith) (cond-most (eqb kind 3) _ _ (suc m + 1) (omega arith) (omega arith)))
+    (cond-most (leb 12 kind) _ _ (suc m + 1) (omega arith) (cond-most (leb 3 kind) _ _ (suc m + 1) (omega arith) (omega arith)))
 
 -- A store at i changes no size up to i.
 size-kept : (kind : ℕ) (sizes : List ℕ) (i j v : ℕ) → j ≤ i → sizeAt kind (set sizes i v) j ≡ sizeAt kind sizes j

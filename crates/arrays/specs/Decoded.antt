@@ -6,9 +6,9 @@ use mathlib.Core.List.{List}
 use lib.ListN.{getD, replicate}
 use lib.Dec.{ltb}
 use Rattle.words.specs.Sets.{hasBit}
-use Rattle.theory.specs.Pattern.{Re, empty, leaf, seq, alt, star}
+use Rattle.theory.specs.Pattern.{Re, empty, leaf, seq, alt, star, field}
 use Rattle.grammar.specs.Code.Tokens.{maxParts}
-use Rattle.grammar.specs.Code.Codes.{PartKind, anEmpty, aSequence, anAlternation, aStar, aLeaf, partKind}
+use Rattle.grammar.specs.Code.Codes.{PartKind, anEmpty, aSequence, anAlternation, aStar, aField, aLeaf, partKind}
 use Rattle.arrays.specs.declared.Pattern.{Pattern}
 
 -- The leaf p: bit p of the mask of a byte says whether its set holds the byte. There are at most 64 leaves.
@@ -25,6 +25,7 @@ partOf masks anEmpty whole left right = empty
 partOf masks aSequence whole left right = seq left right
 partOf masks anAlternation whole left right = alt left right
 partOf masks aStar whole left right = star whole
+partOf masks (aField f) whole left right = field f whole
 partOf masks (aLeaf p) whole left right = leafOf masks p
 
 -- The part that stands at the places from `low` to `end`, the last left out. The first number is at least their number.

@@ -49,7 +49,7 @@ leftSize sizes m = cond (leb (getD sizes m 0) m) (getD sizes (m - getD sizes m 0
 
 -- The size of a part of that kind, from the size of its last part and of the one before.
 abbrev pub sizeOf : ℕ → ℕ → ℕ → ℕ
-sizeOf kind a b = cond (eqb kind emptyKind) 1 (cond (ltb starKind kind) 1 (cond (eqb kind starKind) (a + 1) (a + b + 1)))
+sizeOf kind a b = cond (eqb kind emptyKind) 1 (cond (leb firstLeaf kind) 1 (cond (leb starKind kind) (a + 1) (a + b + 1)))
 
 -- The size of a part of that kind that ends at the place.
 abbrev pub sizeAt : ℕ → List ℕ → ℕ → ℕ

@@ -36,10 +36,13 @@ impl Pattern {
     pub const MAX_DEPTH: usize = 16;
 
     pub const MAX_WEIGHT: usize = 64;
-    // The most parts of a pattern within the limits.
-    pub const MAX_PARTS: usize = 2303;
 
-    // The kinds of parts: the empty sequence, a sequence of two parts, an alternation of two, a star, and then the leaves.
+    // The most brackets that are fields: request 2.
+    pub const MAX_FIELDS: usize = 8;
+    // The most parts of a pattern within the limits.
+    pub const MAX_PARTS: usize = 2815;
+
+    // The kinds of parts: the empty sequence, a sequence of two parts, an alternation of two, a star, the fields 1 to 8, and then the leaves.
     pub const EMPTY: u8 = 0;
 
     pub const SEQUENCE: u8 = 1;
@@ -48,7 +51,9 @@ impl Pattern {
 
     pub const STAR: u8 = 3;
 
-    pub const FIRST_LEAF: u8 = 4;
+    pub const FIRST_FIELD: u8 = 4;
+
+    pub const FIRST_LEAF: u8 = 12;
 
     pub const LAST_LEAF: u8 = Pattern::FIRST_LEAF + 63;
 
@@ -66,7 +71,9 @@ impl Pattern {
     }
 }
 
-// The reader's code of a part is its kind, and that of a leaf this and the place of its text.
+// The reader's code of a part is its kind, that of a field this and how many brackets stand before it, and that of a leaf the next one and the place of its text.
+pub const FIELD_CODE: u16 = Pattern::FIRST_FIELD as u16;
+
 pub const LEAF_CODE: u16 = Pattern::FIRST_LEAF as u16;
 
 // The kind of the leaf p.
@@ -130,10 +137,11 @@ fn size_of(kind: u8, a: u16, b: u16) -> u16
     if kind == Pattern::EMPTY {
         return 1;
     }
-    if Pattern::STAR < kind {
+    if Pattern::FIRST_LEAF <= kind {
         return 1;
     }
-    if kind == Pattern::STAR {
+    // a star or a field has one part
+    if Pattern::STAR <= kind {
         return a + 1;
     }
     a + b + 1

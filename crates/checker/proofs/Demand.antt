@@ -6,8 +6,8 @@ use Prim.Native.Nat.{ℕ, _≤_}
 use mathlib.Core.List.{List}
 use native.Mathlib.Omega.{arith}
 use lib.ListN.{length, take, drop}
-use Rattle.theory.specs.Standing.{standingBy}
-use Rattle.theory.specs.Base.{base, Plain}
+use Rattle.theory.specs.Standing.{standingBy, standing}
+use Rattle.theory.specs.Base.{base, Plain, bare}
 use Rattle.theory.specs.Preference.{Robust}
 use Rattle.theory.proofs.Tests.{either}
 use Rattle.grammar.specs.Grammar.{Alternation}
@@ -21,7 +21,7 @@ use Rattle.verdict.specs.Code.Found.{Found, not-read, same-cuts, first-witness,
 use Rattle.grammar.proofs.Right.{either-way, not-both}
 use Rattle.verdict.proofs.Checked.{checked-one, checked-found}
 use Rattle.verdict.proofs.Promise.{fault-number}
-use Rattle.verdict.proofs.Unmoved.{plain-checked}
+use Rattle.verdict.proofs.Unmoved.{plain-checked, bare-checked}
 use Rattle.verdict.proofs.Demand.{RefusedBy, checked-is, none-robust, alike-means, unlike-means, ten-exactly, eleven-exactly, withheld-exactly, refused-means, lengths-kept}
 use Rattle.checker.specs.declared.Verdict.{Verdict}
 use Rattle.checker.specs.declared.Verdict.the-variants.{Alike, Unlike, Refused}
@@ -68,7 +68,11 @@ module _ (p t v : List ℕ) (x : Verdict) (t′ v′ : List ℕ) (h : Checks p t
 
   -- AS BEFORE THE REQUESTS: what `check` hands over for a plain pattern is the one right result by paper 01's list as it was.
   pub check-plain : ((a : Alternation) → Reads p a → Plain (writeOut a)) → (z : Whole) → CheckedBy (standingBy base) p t v z ↔ (z ≡ whole (resultOf x) t′ v′)
-  check-plain d z = Iff·trans (Iff·symm (plain-checked d z)) (check-is z)
+  check-plain d z = Iff·trans (Iff·symm (plain-checked z d)) (check-is z)
+
+  -- AND FOR EVERY PATTERN the one of the pattern without its brackets.
+  pub check-bare : (z : Whole) → CheckedBy (λ r. standing (bare r)) p t v z ↔ (z ≡ whole (resultOf x) t′ v′)
+  check-bare z = Iff·trans (Iff·symm (bare-checked z)) (check-is z)
 
   -- The buffers keep their lengths.
   pub check-lengths : (length t′ ≡ length t) × (length v′ ≡ length v)

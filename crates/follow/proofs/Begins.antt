@@ -1,65 +1,90 @@
 -- What a part can begin with, by the kind of its last place.
 -- Assumes nothing.
-use mathlib.Core.Path.{_≡_, sym, ap, _∙_}
-use Prim.Native.Nat.{ℕ, suc, _-_, _≤_, _<_}
-use mathlib.Core.List.{List, [], _∷_}
+use mathlib.Core.Path.{_≡_}
+use Prim.Native.Nat.{ℕ, suc, _+_, _-_, _^_, _≤_, _<_}
+use mathlib.Core.List.{List, [], _++_, append-assoc}
 use native.Mathlib.Omega.{arith}
 use lib.ListN.{getD}
+use lib.Bits.{bitOr}
 use borrow.Author.Tests.{lt-ltb, le-ltb}
 use Rattle.theory.specs.Pattern.{empty}
-use Rattle.theory.specs.Standing.{gather}
+use Rattle.traces.specs.Traces.{Carried, opened, wants}
+use Rattle.traces.specs.Code.Pass.{Sets, neither, note}
+use Rattle.traces.specs.Code.Sets.{joined, closing, into}
+use Rattle.traces.proofs.Sets.{into-empty, into-leaf, into-seq, into-alt, into-star, into-field}
+use Rattle.grammar.specs.Brackets.{maxFields}
+use Rattle.grammar.specs.Code.Codes.{firstField, firstLeaf}
+use Rattle.traces.specs.Code.Marks.{Shows}
 use Rattle.arrays.specs.Decoded.{middle, part}
 use Rattle.follow.specs.declared.Outcomes.{Outcomes}
-use Rattle.follow.specs.Outcomes.{listed, Lists}
-use Rattle.follow.specs.Parts.{into, Collects}
-use Rattle.follow.proofs.Splices.{into-empty, into-leaf, into-seq, into-alt, into-star}
-use Rattle.follow.proofs.Parts.{kind-leaf, by-none, by-last}
+use Rattle.follow.specs.Outcomes.{Good, Lists}
+use Rattle.follow.specs.Parts.{Added, Joined, Begins}
+use Rattle.follow.proofs.Masks.{shows-neither, shows-opened, shows-closing}
+use Rattle.follow.proofs.Parts.{byLast, part-none, part-some, field-part, leaf-part}
 
--- The lastKind kinds end of the last place.
+-- The kind of the last place.
 abbrev pub lastKind : List ℕ → ℕ → ℕ
 lastKind kinds end = getD kinds (end - 1) 0
 
 -- The end alone.
-nothing : (rest out : Outcomes) {r : Outcomes} → Lists r (gather (listed out) (listed rest)) → listed r ≡ into (listed rest) (listed out) empty
-nothing rest out l = l .are ∙ sym (into-empty (listed rest) (listed out))
+nothing : {b : ℕ} {rest out r : Outcomes} → Joined out rest b r → (s : Sets) → Shows b s → (m l : List (Carried Sets)) → Lists rest m → Lists out l → Lists r (l ++ into m s empty)
+nothing j s d m l a o = rw (into-empty m s) (j .lists l m s o a d)
 
-module _ {kinds sizes : List ℕ} {low end : ℕ} {rest out r : Outcomes} where
-  pub closure-none : end ≤ low → Lists r (gather (listed out) (listed rest)) → Collects into kinds sizes low end rest out r
-  closure-none h l = by-none into kinds sizes low end rest out r h (record { good = l .good; are = nothing rest out l })
+-- The field n + 1 closed after a part: what the part goes on with.
+pub closed-lists : (n : ℕ) → n < maxFields → {rest none y : Outcomes} → Lists none [] → Joined none rest (2 ^ (maxFields + n)) y → (m : List (Carried Sets)) → Lists rest m → Lists y (joined (closing (suc n)) m)
+closed-lists n h blank j m a = j .lists [] m (closing (suc n)) blank a (shows-closing n h)
+
+module _ {kinds sizes : List ℕ} {low end b : ℕ} {rest out r : Outcomes} where
+  pub closure-none : end ≤ low → Joined out rest b r → Begins kinds sizes low end b rest out r
+  closure-none h j = record { good = j .good; collects = λ s d m l a o masks f g. rw (part-none kinds sizes masks low f end h) (nothing j s d m l a o) }
 
   module _ (h : low < end) where
-    pub closure-empty : lastKind kinds end ≡ 0 → Lists r (gather (listed out) (listed rest)) → Collects into kinds sizes low end rest out r
-    closure-empty e l = by-last into kinds sizes low end rest out r h (l .good) λ masks f g. rw e (nothing rest out l)
+    -- By what the parts of the part begin with.
+    by-last : Good r
+        → ((s : Sets) → Shows b s → (m l : List (Carried Sets)) → Lists rest m → Lists out l → (masks : List ℕ) (f : ℕ) → end ≤ low + suc f → Lists r (l ++ into m s (byLast kinds sizes masks low f (end - 1))))
+        → Begins kinds sizes low end b rest out r
+    by-last good k = record { good = good; collects = λ s d m l a o masks. part-some kinds sizes masks low (λ x. Lists r (l ++ into m s x)) end h (k s d m l a o masks) }
 
-    pub closure-beyond : 67 < lastKind kinds end → Lists r (gather (listed out) (listed rest)) → Collects into kinds sizes low end rest out r
-    closure-beyond k l =
-        by-last into kinds sizes low end rest out r h (l .good) λ masks f g.
-        rw (kind-leaf masks (lastKind kinds end) _ _ _ (omega arith), le-ltb (lastKind kinds end - 4) 64 (omega arith)) (nothing rest out l)
+    pub closure-empty : lastKind kinds end ≡ 0 → Joined out rest b r → Begins kinds sizes low end b rest out r
+    closure-empty e j = by-last (j .good) λ s d m l a o masks f g. rw e (nothing j s d m l a o)
 
-    pub closure-leaf : 3 < lastKind kinds end → lastKind kinds end ≤ 67 → Lists r (gather (listed out) ((lastKind kinds end - 3) ∷ [])) → Collects into kinds sizes low end rest out r
-    closure-leaf k m l =
-        let e : suc (lastKind kinds end - 4) ≡ lastKind kinds end - 3 = omega arith in
-        by-last into kinds sizes low end rest out r h (l .good) λ masks f g.
-        rw (kind-leaf masks (lastKind kinds end) _ _ _ k, lt-ltb (lastKind kinds end - 4) 64 (omega arith))
-        (l .are ∙ sym (ap (λ p. gather (listed out) (p ∷ [])) e) ∙ sym (into-leaf (listed rest) (listed out) (lastKind kinds end - 4) _))
+    pub closure-beyond : firstLeaf + 63 < lastKind kinds end → Joined out rest b r → Begins kinds sizes low end b rest out r
+    closure-beyond k j =
+        by-last (j .good) λ s d m l a o masks f g.
+        rw (leaf-part masks (lastKind kinds end) _ _ _ (omega arith), le-ltb (lastKind kinds end - firstLeaf) 64 (omega arith)) (nothing j s d m l a o)
 
-    pub closure-star : {t : Outcomes} → lastKind kinds end ≡ 3 → Collects into kinds sizes low (end - 1) rest out t → Lists r (gather (listed t) (listed rest)) → Collects into kinds sizes low end rest out r
-    closure-star e turns l =
-        by-last into kinds sizes low end rest out r h (l .good) λ masks f g.
-        rw e (l .are ∙ ap (λ v. gather v (listed rest)) (turns .are masks f (omega arith)) ∙ sym (into-star (listed rest) (listed out) (part f kinds sizes masks low (end - 1))))
+    pub closure-leaf : firstLeaf ≤ lastKind kinds end → lastKind kinds end ≤ firstLeaf + 63 → Added out (lastKind kinds end - firstLeaf + 1) b r → Begins kinds sizes low end b rest out r
+    closure-leaf k n j =
+        by-last (j .good) λ s d m l a o masks f g.
+        let p = lastKind kinds end - firstLeaf in
+        rw (leaf-part masks (lastKind kinds end) _ _ _ k, lt-ltb p 64 (omega arith), into-leaf m s p _) (j .lists l (wants p s) o (omega arith) d)
 
-    module _ {m : ℕ} (at : m ≡ middle sizes low (end - 1)) where
-      pub closure-seq : {n y : Outcomes} → lastKind kinds end ≡ 1 → Lists n [] → Collects into kinds sizes m (end - 1) rest n y → Collects into kinds sizes low m y out r → Collects into kinds sizes low end rest out r
-      closure-seq {n} {y} e blank right left =
-          by-last into kinds sizes low end rest out r h (left .good) λ masks f g.
-          let x = part f kinds sizes masks low m in
-          let z = part f kinds sizes masks m (end - 1) in
-          let then : listed y ≡ into (listed rest) [] z = right .are masks f (omega arith) ∙ ap (λ v. into (listed rest) v z) (blank .are) in
-          rw (e, ← at) (left .are masks f (omega arith) ∙ ap (λ v. into v (listed out) x) then ∙ sym (into-seq (listed rest) (listed out) x z))
+    pub closure-field : {none y : Outcomes} → firstField ≤ lastKind kinds end → lastKind kinds end < firstLeaf → Lists none [] → Joined none rest (2 ^ (maxFields + (lastKind kinds end - firstField))) y
+        → Begins kinds sizes low (end - 1) (bitOr (2 ^ (lastKind kinds end - firstField)) b) y out r → Begins kinds sizes low end b rest out r
+    closure-field i k blank j inner =
+        let n = lastKind kinds end - firstField in
+        by-last (inner .good) λ s d m l a o masks f g.
+        rw (field-part masks (lastKind kinds end) _ _ _ i k, into-field m s (suc n) _)
+        (inner .collects (note (opened (suc n) 0) s) (shows-opened n (omega arith) d) (joined (closing (suc n)) m) l (closed-lists n (omega arith) blank j m a) o masks f (omega arith))
 
-      pub closure-alt : {y : Outcomes} → lastKind kinds end ≡ 2 → Collects into kinds sizes low m rest out y → Collects into kinds sizes m (end - 1) rest y r → Collects into kinds sizes low end rest out r
-      closure-alt {y} e left right =
-          by-last into kinds sizes low end rest out r h (right .good) λ masks f g.
-          let x = part f kinds sizes masks low m in
-          let z = part f kinds sizes masks m (end - 1) in
-          rw (e, ← at) (right .are masks f (omega arith) ∙ ap (λ v. into (listed rest) v z) (left .are masks f (omega arith)) ∙ sym (into-alt (listed rest) (listed out) x z))
+    pub closure-star : {t : Outcomes} → lastKind kinds end ≡ 3 → Begins kinds sizes low (end - 1) b rest out t → Joined t rest b r → Begins kinds sizes low end b rest out r
+    closure-star e turns j =
+        by-last (j .good) λ s d m l a o masks f g.
+        let x = part f kinds sizes masks low (end - 1) in
+        rw (e, into-star m s x, ← append-assoc l (into m s x) (joined s m)) (j .lists (l ++ into m s x) m s (turns .collects s d m l a o masks f (omega arith)) a d)
+
+    module _ {mid : ℕ} (at : mid ≡ middle sizes low (end - 1)) where
+      pub closure-seq : {none y : Outcomes} → lastKind kinds end ≡ 1 → Lists none [] → Begins kinds sizes mid (end - 1) 0 rest none y → Begins kinds sizes low mid b y out r → Begins kinds sizes low end b rest out r
+      closure-seq e blank right left =
+          by-last (left .good) λ s d m l a o masks f g.
+          let x = part f kinds sizes masks low mid in
+          let z = part f kinds sizes masks mid (end - 1) in
+          rw (e, ← at, into-seq m s x z) (left .collects s d (into m neither z) l (right .collects neither shows-neither m [] a blank masks f (omega arith)) o masks f (omega arith))
+
+      pub closure-alt : {y : Outcomes} → lastKind kinds end ≡ 2 → Begins kinds sizes low mid b rest out y → Begins kinds sizes mid (end - 1) b rest y r → Begins kinds sizes low end b rest out r
+      closure-alt e left right =
+          by-last (right .good) λ s d m l a o masks f g.
+          let x = part f kinds sizes masks low mid in
+          let z = part f kinds sizes masks mid (end - 1) in
+          rw (e, ← at, into-alt m s x z, ← append-assoc l (into m s x) (into m s z))
+          (right .collects s d m (l ++ into m s x) a (left .collects s d m l a o masks f (omega arith)) masks f (omega arith))

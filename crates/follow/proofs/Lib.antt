@@ -1,8 +1,10 @@
 -- The laws of the follow tables.
--- Lists of outcomes in arrays.
+-- Masks of fields, lists of outcomes, and such lists in arrays.
+mod Masks
+mod Items
 mod Lists
+mod Joins
 -- What is collected from a part, by its parts.
-mod Splices
 mod Parts
 mod Begins
 mod Nexts

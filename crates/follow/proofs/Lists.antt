@@ -1,34 +1,47 @@
--- Lists of outcomes in an array: one number more keeps them good, and so does another list.
+-- Lists of outcomes in an array: one outcome more keeps them good. An outcome keeps the fields that it came with first.
 -- Assumes nothing.
 use mathlib.Core.Path.{_≡_, refl, sym, ap, _∙_, subst}
-use Prim.Native.Nat.{ℕ, zero, suc, _+_, _≤_, _<_}
+use Prim.Native.Nat.{ℕ, suc, _+_, _≤_, _<_}
 use mathlib.Core.Bool.{Bool, true, false, _||_}
 use mathlib.Core.List.{List, [], _∷_, _++_}
 use native.Mathlib.Omega.{arith}
+use native.Mathlib.Decide.{ℕ-discrete}
 use native.Mathlib.Numerals.{add-one}
-use lib.ListN.{length, getD, set, take, drop, replicate, length-set, length-append, length-replicate, drop-of-length-le}
-use lib.Seq.{take-suc-set, length-take-le, drop-cons, getD-take}
+use lib.ListN.{length, getD, set, take, replicate, length-set, length-append, length-replicate}
+use lib.Seq.{take-suc-set, length-take-le, getD-set-same, getD-set-other}
 use lib.Dec.{T, eqb, eqb→eq, eqb-refl, eqb·suc-suc, eqb·zero-suc, eqb·suc-zero}
+use borrow.Author.Tests.{ne-eqb}
 use Rattle.theory.specs.Standing.{member, gather, once, from}
-use Rattle.theory.proofs.Tests.{or-left, or-right, or-cases, or-false, either}
 use Rattle.theory.specs.Code.Members.{Once, nil}
+use Rattle.theory.proofs.Tests.{T-true, or-cases, or-false, either}
 use Rattle.theory.proofs.Members.{Within, gather-append, gather-member, member-from, length-from, once-gather, once-size}
 use Rattle.theory.proofs.Closure.{gather-once}
+use Rattle.traces.specs.Traces.{Carried}
+use Rattle.traces.specs.Code.Pass.{Sets, item, items}
+use Rattle.traces.specs.Code.Marks.{Shows, carriedBy, setsOf}
 use Rattle.words.specs.Sets.{hasBit, withLeaf}
+use Rattle.words.proofs.Bits.{no-bit, with-bit}
 use Rattle.follow.specs.declared.Outcomes.{Outcomes}
 use Rattle.follow.specs.Outcomes.{listed, flag, Good, Lists}
-use Rattle.words.proofs.Bits.{no-bit, with-bit}
+use Rattle.follow.specs.Parts.{Added}
+use Rattle.follow.proofs.Items.{once-append, sets-append}
 
-pub none-lists : Lists (record { items = replicate 65 0; len = 0; set = 0; end = 0 }) []
+pub none-lists : Lists (record { items = replicate 65 0; len = 0; set = 0; end = 0; marks = replicate 65 0 }) []
 none-lists =
     record {
-      good = record { long = length-replicate {A = ℕ} 65 0; room = omega arith; each = refl; small = λ q t. absurd t; set = λ q h. no-bit q; end = refl };
+      good =
+          record {
+            long = length-replicate {A = ℕ} 65 0;
+            wide = length-replicate {A = ℕ} 65 0;
+            room = omega arith;
+            each = refl;
+            small = λ q t. absurd t;
+            set = λ q h. no-bit q;
+            end = refl;
+          };
       are = refl;
+      marked = λ q t. absurd t;
     }
-
--- What has each number once still has after `gather`.
-pub each-gather : (s l : List ℕ) → once s ≡ s → once (gather s l) ≡ gather s l
-each-gather s l h = let e : once (s ++ l) ≡ gather s l = gather-append [] s l ∙ ap (λ v. gather v l) h in rw e at (gather-once [] (s ++ l))
 
 flag-one : (b : Bool) → eqb (flag b) 1 ≡ b
 flag-one true = refl
@@ -40,6 +53,25 @@ holds-end x p g e = rw (e, g .end) (flag-one (member 0 (listed x)))
 pub holds-leaf : (x : Outcomes) (p q : ℕ) → Good x → p ≤ 64 → p ≡ suc q → hasBit (x .set) q ≡ member p (listed x)
 holds-leaf x p q g h e = rw e (g .set q (omega arith))
 
+-- The list x is the list l.
+module _ {x : Outcomes} {l : List (Carried Sets)} (is : Lists x l) where
+  pub member-is : (q : ℕ) → member q (listed x) ≡ member q (items l)
+  member-is q = rw (is .are) (gather-member q [] (items l))
+
+  once-more : (m : List (Carried Sets)) → once (items (l ++ m)) ≡ gather (listed x) (items m)
+  once-more m = once-append l m ∙ ap (λ v. gather v (items m)) (sym (is .are))
+
+  sets-had : (q : ℕ) (m : List (Carried Sets)) → T (member q (listed x)) → setsOf q (l ++ m) ≡ setsOf q l
+  sets-had q m t = let e : member q (items l) ≡ true = sym (member-is q) ∙ T-true (member q (listed x)) t in sets-append q l m ∙ rw e
+
+  sets-new : (q : ℕ) (m : List (Carried Sets)) → member q (listed x) ≡ false → setsOf q (l ++ m) ≡ setsOf q m
+  sets-new q m f = let e : member q (items l) ≡ false = sym (member-is q) ∙ f in sets-append q l m ∙ rw e
+
+-- What has each number once still has after `gather`.
+each-gather : (s l : List ℕ) → once s ≡ s → once (gather s l) ≡ gather s l
+each-gather s l h = let e : once (s ++ l) ≡ gather s l = gather-append [] s l ∙ ap (λ v. gather v l) h in rw e at (gather-once [] (s ++ l))
+
+-- One number more.
 module _ (x : Outcomes) (p : ℕ) (h : p ≤ 64) (g : Good x) where
   small-more : (q : ℕ) → T (member q (gather (listed x) (p ∷ []))) → q ≤ 64
   small-more q t =
@@ -61,57 +93,52 @@ module _ (x : Outcomes) (p : ℕ) (h : p ≤ 64) (g : Good x) where
     fits =
         omega (arith, more-size, ap length appended, length-append (listed x) (p ∷ []), length-take-le (x .len) (x .items) (omega (arith, g .room, g .long)))
 
-    pub append-lists : (bits end : ℕ)
-        → ((q : ℕ) → q < 64 → hasBit bits q ≡ (hasBit (x .set) q || eqb (suc q) p))
-        → end ≡ flag (member 0 (listed x) || eqb 0 p)
-        → Lists (record { items = set (x .items) (x .len) p; len = x .len + 1; set = bits; end = end }) (gather (listed x) (p ∷ []))
-    append-lists bits end hb he =
-        let s = listed x in
-        let e : take (x .len + 1) (set (x .items) (x .len) p) ≡ gather s (p ∷ []) =
-        rw (appended, add-one, take-suc-set (x .items) (x .len) p (omega (arith, fits, g .long))) in
-        record {
+    module _ (b : ℕ) where
+      -- The list with it, its bits and its flag.
+      abbrev with : ℕ → ℕ → Outcomes
+      with bits end = record { items = set (x .items) (x .len) p; len = x .len + 1; set = bits; end = end; marks = set (x .marks) p b }
+
+      append-added : (bits end : ℕ) → ((q : ℕ) → q < 64 → hasBit bits q ≡ (hasBit (x .set) q || eqb (suc q) p)) → end ≡ flag (member 0 (listed x) || eqb 0 p) → Added x p b (with bits end)
+      append-added bits end hb he = record { good = good; lists = lists }
+        where
+          are : take (x .len + 1) (set (x .items) (x .len) p) ≡ gather (listed x) (p ∷ [])
+          are = rw (appended, add-one, take-suc-set (x .items) (x .len) p (omega (arith, fits, g .long)))
+
+          has : (q : ℕ) → member q (gather (listed x) (p ∷ [])) ≡ (member q (listed x) || eqb q p)
+          has q = gather-member q (listed x) (p ∷ []) ∙ ap (λ c. member q (listed x) || c) (or-false (eqb q p))
+
+          good : Good (with bits end)
           good =
               record {
                 long = length-set (x .items) (x .len) p ∙ g .long;
+                wide = length-set (x .marks) p b ∙ g .wide;
                 room = omega (arith, fits);
-                each = rw e (each-gather s (p ∷ []) (g .each));
-                small = rw e small-more;
-                set = λ q l. rw (e, hb q l, g .set q l) (sym (gather-member (suc q) s (p ∷ []) ∙ ap (λ b. member (suc q) s || b) (or-false (eqb (suc q) p))));
-                end = rw (e, he) (ap flag (sym (gather-member 0 s (p ∷ []) ∙ ap (λ b. member 0 s || b) (or-false (eqb 0 p)))));
-              };
-          are = e;
-        }
+                each = rw are (each-gather (listed x) (p ∷ []) (g .each));
+                small = rw are small-more;
+                set = λ q l. rw (are, hb q l, g .set q l) (sym (has (suc q)));
+                end = rw (are, he) (ap flag (sym (has 0)));
+              }
 
-    pub append-end : p ≡ 0 → Lists (record { items = set (x .items) (x .len) p; len = x .len + 1; set = x .set; end = 1 }) (gather (listed x) (p ∷ []))
-    append-end e =
-        let f : member 0 (listed x) ≡ false = rw e at n in
-        append-lists (x .set) 1 (λ q l. rw (e, eqb·suc-zero q) (sym (or-false (hasBit (x .set) q)))) (rw (e, f))
+          lists : (l : List (Carried Sets)) (o : Carried Sets) → Lists x l → item o ≡ p → Shows b (carriedBy o) → Lists (with bits end) (l ++ (o ∷ []))
+          lists l o is e s = record { good = good; are = are ∙ ap (λ q. gather (listed x) (q ∷ [])) (sym e) ∙ sym (once-more is (o ∷ [])); marked = λ q t. go q (ℕ-discrete q p) (rw (are, has q) at t) }
+            where
+              go : (q : ℕ) → Dec (q ≡ p) → T (member q (listed x) || eqb q p) → Shows (getD (set (x .marks) p b) q 0) (setsOf q (l ++ (o ∷ [])))
+              go q (yes d) t = rw (d, getD-set-same (x .marks) p b 0 (omega (arith, g .wide)), sets-new is p (o ∷ []) n, e, T-true (eqb p p) (eqb-refl p)) s
+              go q (no d) t =
+                  let m : T (member q (listed x)) = rw (ne-eqb q p d, or-false (member q (listed x))) at t in
+                  rw (getD-set-other (x .marks) p q b 0 d, sets-had is q (o ∷ []) m) (is .marked q m)
 
-    pub append-leaf : (q bits : ℕ) → p ≡ suc q → bits ≡ withLeaf (x .set) q
-        → Lists (record { items = set (x .items) (x .len) p; len = x .len + 1; set = bits; end = x .end }) (gather (listed x) (p ∷ []))
-    append-leaf q bits e w =
-        append-lists bits (x .end) (λ k l. rw (e, eqb·suc-suc k q, w) (with-bit (x .set) q k (omega (arith, h)))) (rw (e, eqb·zero-suc q, or-false (member 0 (listed x))) (g .end))
+      pub append-end : p ≡ 0 → Added x p b (with (x .set) 1)
+      append-end e =
+          let f : member 0 (listed x) ≡ false = rw e at n in
+          append-added (x .set) 1 (λ q l. rw (e, eqb·suc-zero q) (sym (or-false (hasBit (x .set) q)))) (rw (e, f))
 
-  pub add-held : member p (listed x) ≡ true → Lists x (gather (listed x) (p ∷ []))
-  add-held e = record { good = g; are = rw e }
+      pub append-leaf : (q bits : ℕ) → p ≡ suc q → bits ≡ withLeaf (x .set) q → Added x p b (with bits (x .end))
+      append-leaf q bits e w =
+          append-added bits (x .end) (λ k l. rw (e, eqb·suc-suc k q, w) (with-bit (x .set) q k (omega (arith, h)))) (rw (e, eqb·zero-suc q, or-false (member 0 (listed x))) (g .end))
 
-member-getD : (l : List ℕ) (i : ℕ) → i < length l → T (member (getD l i 0) l)
-member-getD [] i h = absurd (omega arith)
-member-getD (p ∷ l) zero h = or-left (eqb p p) (member p l) (eqb-refl p)
-member-getD (p ∷ l) (suc i) h = or-right (eqb (getD l i 0) p) (member (getD l i 0) l) (member-getD l i (omega arith))
-
-module _ (y : Outcomes) (g : Good y) where
-  pub item-small : (i : ℕ) → i < y .len → getD (y .items) i 0 ≤ 64
-  item-small i h =
-      g .small _ (subst (λ q. T (member q (listed y))) (getD-take (y .len) (y .items) i 0 h)
-      (member-getD (listed y) i (omega (arith, length-take-le (y .len) (y .items) (omega (arith, g .room, g .long))))))
-
-  pub join-turn : (r r′ : Outcomes) (i : ℕ) → i < y .len → Lists r′ (gather (listed r) (getD (y .items) i 0 ∷ [])) → gather (listed r′) (drop (i + 1) (listed y)) ≡ gather (listed r) (drop i (listed y))
-  join-turn r r′ i h l =
-      let k : i < length (listed y) = omega (arith, length-take-le (y .len) (y .items) (omega (arith, g .room, g .long))) in
-      rw (l .are, add-one i, drop-cons (listed y) i 0 k, getD-take (y .len) (y .items) i 0 h)
-
-  pub join-done : (r : Outcomes) (i : ℕ) → y .len ≤ i → gather (listed r) (drop i (listed y)) ≡ listed r
-  join-done r i h =
-      let k : length (listed y) ≤ i = omega (arith, length-take-le (y .len) (y .items) (omega (arith, g .room, g .long))) in
-      rw (drop-of-length-le (listed y) k)
+  pub add-held : {b : ℕ} → member p (listed x) ≡ true → Added x p b x
+  add-held e = record {
+    good = g;
+    lists = λ l o is i s. record { good = g; are = rw (i, e) at (sym (once-more is (o ∷ []))); marked = λ q t. rw (sets-had is q (o ∷ []) t) (is .marked q t) };
+  }

@@ -1,12 +1,15 @@
--- A list of outcomes in an array, each once, with its wanted leaves as bits.
+-- A list of outcomes in an array, each once, with its wanted leaves as bits and a mask of fields for each outcome.
 -- Assumes nothing.
 use mathlib.Core.Path.{_≡_}
 use Prim.Native.Nat.{ℕ, suc, _≤_, _<_}
 use mathlib.Core.Bool.{Bool, true, false}
 use mathlib.Core.List.{List}
-use lib.ListN.{length, take}
+use lib.ListN.{length, getD, take}
 use lib.Dec.{T}
 use Rattle.theory.specs.Standing.{member, once}
+use Rattle.traces.specs.Traces.{Carried}
+use Rattle.traces.specs.Code.Pass.{Sets, items}
+use Rattle.traces.specs.Code.Marks.{Shows, setsOf}
 use Rattle.words.specs.Sets.{hasBit}
 use Rattle.follow.specs.declared.Outcomes.{Outcomes}
 
@@ -21,13 +24,15 @@ flag false = 0
 -- The list has each number once, none above 64; the bits and the flag are those of its numbers.
 pub record Good (x : Outcomes) : Type 0 where
   pub long : length (x .items) ≡ 65
+  pub wide : length (x .marks) ≡ 65
   pub room : x .len ≤ 65
   pub each : once (listed x) ≡ listed x
   pub small : (q : ℕ) → T (member q (listed x)) → q ≤ 64
   pub set : (q : ℕ) → q < 64 → hasBit (x .set) q ≡ member (suc q) (listed x)
   pub end : x .end ≡ flag (member 0 (listed x))
 
--- x is the list v.
-pub record Lists (x : Outcomes) (v : List ℕ) : Type 0 where
+-- x is the list l, each outcome the first time it comes, with what it carries then.
+pub record Lists (x : Outcomes) (l : List (Carried Sets)) : Type 0 where
   pub good : Good x
-  pub are : listed x ≡ v
+  pub are : listed x ≡ once (items l)
+  pub marked : (q : ℕ) → T (member q (listed x)) → Shows (getD (x .marks) q 0) (setsOf q l)

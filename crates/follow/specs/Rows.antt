@@ -8,6 +8,7 @@ use lib.ListN.{getD, take, drop}
 use Rattle.theory.specs.Pattern.{Re, count, Numbered}
 use Rattle.theory.specs.Standing.{member}
 use Rattle.theory.specs.Code.Closure.{closure, closureAfter}
+use Rattle.traces.specs.Code.Marks.{Marks}
 use Rattle.words.specs.Sets.{hasBit}
 use Rattle.follow.specs.declared.Tables.{Tables}
 
@@ -31,3 +32,7 @@ pub record Follows (r : Re) (t : Tables) : Type 0 where
 -- Promised for a pattern whose leaves are numbered from 0, at most 64.
 abbrev pub Right : Re → Tables → Type 0
 Right r t = Numbered 0 r → count r ≤ 64 → Follows r t
+
+-- The masks of fields.
+abbrev pub Marked : Re → List ℕ → Type 0
+Marked r marks = Numbered 0 r → count r ≤ 64 → Marks r marks

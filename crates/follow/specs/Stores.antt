@@ -1,7 +1,7 @@
 -- The rows as the code makes and stores them.
 -- Assumes nothing.
 use mathlib.Core.Path.{_≡_}
-use Prim.Native.Nat.{ℕ, zero, suc, _*_, _<_}
+use Prim.Native.Nat.{ℕ, zero, suc, _+_, _*_, _≤_, _<_}
 use mathlib.Core.Bool.{cond}
 use mathlib.Core.List.{List}
 use lib.ListN.{length, getD, set}
@@ -9,11 +9,12 @@ use lib.Seq.{paste}
 use lib.Dec.{leb}
 use Rattle.theory.specs.Pattern.{Re}
 use Rattle.theory.specs.Code.Closure.{closure, closureAfter}
+use Rattle.traces.specs.Code.Marks.{rowSets}
 use Rattle.arrays.specs.Decoded.{part}
 use Rattle.follow.specs.declared.Outcomes.{Outcomes}
 use Rattle.follow.specs.declared.Tables.{Tables}
 use Rattle.follow.specs.Rows.{row}
-use Rattle.follow.specs.Outcomes.{listed, Good}
+use Rattle.follow.specs.Outcomes.{listed, Good, Lists}
 
 -- How many places the code goes by: none where the arrays have fewer than `len`.
 abbrev pub places : List ℕ → ℕ → ℕ
@@ -28,6 +29,7 @@ rowOf (suc p) r = closureAfter r p
 pub record IsRow (kinds sizes : List ℕ) (end k : ℕ) (x : Outcomes) : Type 0 where
   pub good : Good x
   pub are : (masks : List ℕ) → listed x ≡ rowOf k (part end kinds sizes masks 0 end)
+  pub lists : (masks : List ℕ) → Lists x (rowSets k (part end kinds sizes masks 0 end))
 
 -- The arrays lent, as tables.
 abbrev pub tablesOf : List ℕ → List ℕ → List ℕ → List ℕ → Tables
@@ -57,3 +59,8 @@ pub record HasRow (t : Tables) (k : ℕ) (x : Outcomes) : Type 0 where
 pub record Filled (kinds sizes : List ℕ) (end n : ℕ) (t : Tables) : Type 0 where
   pub long : Long t
   pub rows : (k : ℕ) → k < n → (x : Outcomes) × IsRow kinds sizes end k x × HasRow t k x
+
+-- The masks of the rows below n are those of the pattern at the first `end` places.
+pub record FilledMarks (kinds sizes : List ℕ) (end n : ℕ) (marks : List ℕ) : Type 0 where
+  pub long : length marks ≡ 4225
+  pub rows : (k : ℕ) → k < n → (x : Outcomes) × IsRow kinds sizes end k x × ((q : ℕ) → q ≤ 64 → getD marks (65 * k + q) 0 ≡ getD (x .marks) q 0)

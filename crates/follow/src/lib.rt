@@ -1,17 +1,22 @@
 // The follow tables of a pattern: what it can begin with and what can follow each leaf, in the order of preference, each outcome once.
-// They are built once for a pattern, by an ordered closure over its parts.
+// They are built once for a pattern, by an ordered closure over its parts. With each outcome goes a mask of the fields that the way to it opens and closes (request 2).
 ghost use mathlib.Core.Path.{_≡_};
 ghost use mathlib.Core.Bool.{false};
-ghost use mathlib.Core.List.{[], _∷_};
-ghost use Prim.Native.Nat.{_+_, _*_, _≤_, _<_};
-ghost use lib.ListN.{length};
+ghost use mathlib.Core.List.{[]};
+ghost use Prim.Native.Nat.{_+_, _*_, _-_, _^_, _≤_, _<_};
+ghost use lib.ListN.{length, getD};
+ghost use lib.Bits.{bitOr};
 ghost use lib.Seq.{paste};
-ghost use Rattle.theory.specs.Standing.{member, gather};
+ghost use Rattle.theory.specs.Standing.{member};
+ghost use Rattle.traces.specs.Code.Pass.{neither};
+ghost use Rattle.traces.specs.Traces.{end};
+ghost use Rattle.grammar.specs.Brackets.{maxFields};
 ghost use Rattle.grammar.specs.Code.Tokens.{maxParts};
+ghost use Rattle.grammar.specs.Code.Codes.{firstField, firstLeaf};
 ghost use Rattle.arrays.specs.Decoded.{decode, middle};
-ghost use Rattle.follow.specs.Rows.{Right};
+ghost use Rattle.follow.specs.Rows.{Right, Marked};
 ghost use Rattle.follow.specs.Outcomes.{listed, Good, Lists};
-ghost use Rattle.follow.specs.Parts.{into, intoAfter, Collects, Lacks};
+ghost use Rattle.follow.specs.Parts.{Added, Joined, Begins, Nexts, Lacks};
 ghost use Rattle.follow.specs.Stores.{places, IsRow, tablesOf, Long, Stored, Filled};
 use arrays::Kinds;
 use arrays::Pattern;
@@ -37,6 +42,8 @@ struct Outcomes {
     set: u64,
     // 1 where it has the end, else 0
     end: u8,
+    // of each number of the list, the fields on the way to it: bit f - 1 if the field f is opened, bit f + 7 if it is closed
+    marks: [u16; 65],
 }
 
 fn none() -> Outcomes
@@ -47,6 +54,7 @@ fn none() -> Outcomes
         len: 0,
         set: 0,
         end: 0,
+        marks: [0u16; 65],
     }
 }
 
@@ -61,14 +69,16 @@ fn holds(x: Outcomes, p: u8) -> bool
 }
 
 // The list with a number that it does not have.
-fn append(x: Outcomes, p: u8) -> Outcomes
+fn append(x: Outcomes, p: u8, marks: u16) -> Outcomes
     requires { ⌜ (p ≤ 64) × Good x × (member p (listed x) ≡ false) ⌝ }
-    ensures { λ r. ⌜ Lists r (gather (listed x) (p ∷ [])) ⌝ }
+    ensures { λ r. ⌜ Added x p marks r ⌝ }
 {
     let n = x.len;
+    let q = words::wide(p);
     let mut r = x;
     r.items[n] = p;
     r.len = n + 1;
+    r.marks[q] = marks;
     if p == 0 {
         r.end = 1;
         return r;
@@ -77,26 +87,37 @@ fn append(x: Outcomes, p: u8) -> Outcomes
     r
 }
 
-fn add(x: Outcomes, p: u8) -> Outcomes
+// What a list has already stays as it came first.
+fn add(x: Outcomes, p: u8, marks: u16) -> Outcomes
     requires { ⌜ (p ≤ 64) × Good x ⌝ }
-    ensures { λ r. ⌜ Lists r (gather (listed x) (p ∷ [])) ⌝ }
+    ensures { λ r. ⌜ Added x p marks r ⌝ }
 {
     if holds(x, p) {
         return x;
     }
-    append(x, p)
+    append(x, p, marks)
 }
 
-fn join(x: Outcomes, y: Outcomes) -> Outcomes
+// The outcome i of y, after the fields `marks`.
+fn add_from(x: Outcomes, y: Outcomes, i: usize, marks: u16) -> Outcomes
+    requires { ⌜ (i < y .len) × Good x × Good y ⌝ }
+    ensures { λ r. ⌜ Added x (getD (y .items) i 0) (bitOr marks (getD (y .marks) (getD (y .items) i 0) 0)) r ⌝ }
+{
+    let p = y.items[i];
+    let own = y.marks[words::wide(p)];
+    add(x, p, words::union_u16(marks, own))
+}
+
+// The list x, and then the list y after the fields `marks`.
+fn join(x: Outcomes, y: Outcomes, marks: u16) -> Outcomes
     requires { ⌜ Good x × Good y ⌝ }
-    ensures { λ r. ⌜ Lists r (gather (listed x) (listed y)) ⌝ }
+    ensures { λ r. ⌜ Joined x y marks r ⌝ }
 {
     let n = y.len;
     let mut r = x;
     let mut i = 0;
     while i < n {
-        let p = y.items[i];
-        r = add(r, p);
+        r = add_from(r, y, i, marks);
         i += 1;
     }
     r
@@ -104,9 +125,24 @@ fn join(x: Outcomes, y: Outcomes) -> Outcomes
 
 // The list that is only the end.
 fn ending() -> Outcomes
-    ensures { λ r. ⌜ Lists r (0 ∷ []) ⌝ }
+    ensures { λ r. ⌜ Lists r (end 0 neither) ⌝ }
 {
-    add(none(), 0)
+    add(none(), 0, 0)
+}
+
+// The masks of a field by the kind of its part.
+fn opening(kind: u8) -> u16
+    requires { ⌜ (firstField ≤ kind) × (kind < firstLeaf) ⌝ }
+    ensures { λ r. ⌜ r ≡ 2 ^ (kind - firstField) ⌝ }
+{
+    1u16 << (kind - Pattern::FIRST_FIELD)
+}
+
+fn closing(kind: u8) -> u16
+    requires { ⌜ (firstField ≤ kind) × (kind < firstLeaf) ⌝ }
+    ensures { λ r. ⌜ r ≡ 2 ^ (maxFields + (kind - firstField)) ⌝ }
+{
+    1u16 << (kind - Pattern::FIRST_FIELD + 8)
 }
 
 // Where the right one of two parts begins, which together stand from low to end.
@@ -124,45 +160,51 @@ fn middle(sizes: &Sizes, low: usize, end: usize) -> usize
     end - size
 }
 
-// What the part from low to end can begin with, its end replaced by rest, added to out.
+// What the part from low to end can begin with after the fields `marks`, its end replaced by rest, added to out.
 fn closure<'a>(
     kinds: &'a Kinds,
     sizes: &'a Sizes,
     low: usize,
     end: usize,
+    marks: u16,
     rest: Outcomes,
     out: Outcomes,
 ) -> Outcomes
     requires { ⌜ (end ≤ maxParts) × Good rest × Good out ⌝ }
-    ensures { λ r. ⌜ Collects into (now (kinds .entry)) (now (sizes .entry)) low end rest out r ⌝ }
+    ensures { λ r. ⌜ Begins (now (kinds .entry)) (now (sizes .entry)) low end marks rest out r ⌝ }
 {
     if end <= low {
-        return join(out, rest);
+        return join(out, rest, marks);
     }
     let last = end - 1;
     let kind = kinds[last];
     if kind == Pattern::EMPTY {
-        return join(out, rest);
+        return join(out, rest, marks);
     }
     if Pattern::LAST_LEAF < kind {
-        return join(out, rest);
+        return join(out, rest, marks);
     }
-    // the kinds of the leaves come after the star's, so this is the leaf's number and one
-    if Pattern::STAR < kind {
-        return add(out, kind - Pattern::STAR);
+    if Pattern::FIRST_LEAF <= kind {
+        // the leaf's number and one
+        return add(out, kind - Pattern::FIRST_LEAF + 1, marks);
+    }
+    if Pattern::FIRST_FIELD <= kind {
+        let closed = join(none(), rest, closing(kind));
+        let opened = words::union_u16(opening(kind), marks);
+        return closure(kinds, sizes, low, last, opened, closed, out);
     }
     if kind == Pattern::STAR {
         // the end of an empty turn is the repeat's, in its place
-        let turns = closure(kinds, sizes, low, last, rest, out);
-        return join(turns, rest);
+        let turns = closure(kinds, sizes, low, last, marks, rest, out);
+        return join(turns, rest, marks);
     }
     let m = middle(sizes, low, last);
     if kind == Pattern::SEQUENCE {
-        let right = closure(kinds, sizes, m, last, rest, none());
-        return closure(kinds, sizes, low, m, right, out);
+        let right = closure(kinds, sizes, m, last, 0, rest, none());
+        return closure(kinds, sizes, low, m, marks, right, out);
     }
-    let left = closure(kinds, sizes, low, m, rest, out);
-    closure(kinds, sizes, m, last, rest, left)
+    let left = closure(kinds, sizes, low, m, marks, rest, out);
+    closure(kinds, sizes, m, last, marks, rest, left)
 }
 
 // Whether no place from low to end has that kind: then a part there has no such leaf.
@@ -191,7 +233,7 @@ fn after<'a>(
     out: Outcomes,
 ) -> Outcomes
     requires { ⌜ (end ≤ maxParts) × (p < 64) × Good rest × Good out ⌝ }
-    ensures { λ r. ⌜ Collects (intoAfter p) (now (kinds .entry)) (now (sizes .entry)) low end rest out r ⌝ }
+    ensures { λ r. ⌜ Nexts p (now (kinds .entry)) (now (sizes .entry)) low end rest out r ⌝ }
 {
     if lacks(kinds, low, end, Pattern::FIRST_LEAF + p) {
         return out;
@@ -199,16 +241,20 @@ fn after<'a>(
     let last = end - 1;
     let kind = kinds[last];
     if kind == Pattern::FIRST_LEAF + p {
-        return join(out, rest);
+        return join(out, rest, 0);
     }
-    if Pattern::STAR < kind {
+    if Pattern::FIRST_LEAF <= kind {
         return out;
     }
     if kind == Pattern::EMPTY {
         return out;
     }
+    if Pattern::FIRST_FIELD <= kind {
+        let closed = join(none(), rest, closing(kind));
+        return after(kinds, sizes, low, last, p, closed, out);
+    }
     if kind == Pattern::STAR {
-        let again = closure(kinds, sizes, low, end, rest, none());
+        let again = closure(kinds, sizes, low, end, 0, rest, none());
         return after(kinds, sizes, low, last, p, again, out);
     }
     let m = middle(sizes, low, last);
@@ -217,7 +263,7 @@ fn after<'a>(
         if lacks(kinds, low, m, Pattern::FIRST_LEAF + p) {
             return after(kinds, sizes, m, last, p, rest, out);
         }
-        let right = closure(kinds, sizes, m, last, rest, none());
+        let right = closure(kinds, sizes, m, last, 0, rest, none());
         let left = after(kinds, sizes, low, m, p, right, out);
         return after(kinds, sizes, m, last, p, rest, left);
     }
@@ -242,7 +288,7 @@ fn row_of<'a>(kinds: &'a Kinds, sizes: &'a Sizes, end: usize, k: u8) -> Outcomes
     ensures { λ r. ⌜ IsRow (now (kinds .entry)) (now (sizes .entry)) end k r ⌝ }
 {
     if k == 0 {
-        return closure(kinds, sizes, 0, end, ending(), none());
+        return closure(kinds, sizes, 0, end, 0, ending(), none());
     }
     after(kinds, sizes, 0, end, k - 1, ending(), none())
 }
@@ -328,5 +374,33 @@ pub fn tables_of(x: Pattern) -> Tables
         lens,
         sets,
         ends,
+    }
+}
+
+fn copy_marks(x: Outcomes, k: usize, marks: &mut [u16; 4225])
+    requires { ⌜ (k < 65) × Good x × (length (now marks) ≡ 4225) ⌝ }
+    ensures { λ _. ⌜ now (marks .exit) ≡ paste (now (marks .entry)) (65 * k) (x .marks) 65 ⌝ }
+{
+    let at = 65 * k;
+    let mut q = 0;
+    while q < 65 {
+        let m = x.marks[q];
+        marks[at + q] = m;
+        q += 1;
+    }
+}
+
+// The masks of the fields, for the start and for each leaf, made by the same closure: row k begins at 65 k, and there the outcome with the number q has the place q.
+pub fn marks_of(x: Pattern, marks: &mut [u16; 4225])
+    ensures marked { λ _. ⌜ Marked (decode x) (now (marks .exit)) ⌝ }
+{
+    // made anew, for a check does not know the length of an array that is lent
+    *marks = [0u16; 4225];
+    let end = places(&x.kinds, x.len);
+    let mut k = 0u8;
+    while k < 65 {
+        let row = row_of(&x.kinds, &x.sizes, end, k);
+        copy_marks(row, words::wide(k), marks);
+        k += 1;
     }
 }

@@ -5,12 +5,13 @@ use Prim.Native.Nat.{ℕ, zero, suc}
 use mathlib.Core.Bool.{Bool, true, false}
 use mathlib.Core.List.{List, [], _∷_, _++_, map}
 use lib.ListN.{replicate}
-use Rattle.theory.specs.Pattern.{Re, empty, seq, star, opt, count, number, has}
+use Rattle.theory.specs.Pattern.{Re, empty, leaf, seq, alt, star, field, opt, count, number, has}
 use Rattle.theory.specs.Standing.{from}
 use Rattle.grammar.specs.Grammar.{plain, digit, Item, range, named, one, more, exactly, atLeast, between, kind, inside}
 use Rattle.grammar.specs.Limits.{heaviest, weight}
 use Rattle.grammar.specs.Sets.{setTable, inItem, inClass}
-use Rattle.grammar.specs.WriteOut.{chain, optional, repeatOf, shape, writeOut}
+use Rattle.grammar.specs.Brackets.{brackets, ninth}
+use Rattle.grammar.specs.WriteOut.{chain, optional, repeatOf, bracketed, shape, writeOut}
 use Rattle.grammar.specs.Refusals.{Answer, accepted, refused}
 use Rattle.grammar.specs.Code.Tokens.{nodes}
 use Rattle.grammar.specs.Code.Reader.{read, loop, readItems}
@@ -72,7 +73,7 @@ unfolding read loop kind inside readItems heaviest weight
 numbers-due = refl
 
 pub places-due : map (λ c. placeOf (read (c .pattern))) cases ≡ map (λ c. c .place-due) cases
-unfolding read loop kind inside readItems heaviest weight writeOut shape chain optional number count
+unfolding read loop kind inside readItems heaviest weight writeOut bracketed shape chain optional number count
 places-due = refl
 
 -- A range holds both its ends, and a negated class all bytes not listed: [a-c] and [^a-c] at a, c and d.
@@ -91,11 +92,11 @@ holds (accepted t) = map (has (writeOut t) 0) (from 0 256)
 holds (refused n q) = []
 
 pub dot-holds : holds (read (46 ∷ [])) ≡ replicate 10 true ++ (false ∷ replicate 245 true)
-unfolding read loop kind inside readItems heaviest weight writeOut shape chain number count has
+unfolding read loop kind inside readItems heaviest weight writeOut bracketed shape chain number count has
 dot-holds = refl
 
 pub negated-holds : holds (read (91 ∷ 94 ∷ 97 ∷ 93 ∷ [])) ≡ replicate 97 true ++ (false ∷ replicate 158 true)
-unfolding read loop kind inside readItems heaviest weight writeOut shape chain number count has
+unfolding read loop kind inside readItems heaviest weight writeOut bracketed shape chain number count has
 negated-holds = refl
 
 -- A named set is its bit of the table: [:digit:] at `/`, 0, 9 and `:`.
@@ -121,7 +122,8 @@ pub one-or-more : (x : Re) → repeatOf more x ≡ seq x (star x)
 unfolding chain
 one-or-more x = refl
 
--- The most parts: ((..(a?)?..)?){0,63} with 16 brackets, and another such part with `?` for the count. The bound of `nodes-2303` is reached.
+-- The most parts: ((..(a?)?..)?){0,63} with 16 brackets, and another such part with `?` for the count. The bound of `nodes-within` is reached but for
+-- eight: the brackets of the other part are no fields.
 abbrev nest : ℕ → List ℕ → List ℕ
 nest zero s = 97 ∷ 63 ∷ s
 nest (suc n) s = 40 ∷ nest n (41 ∷ 63 ∷ s)
@@ -133,6 +135,36 @@ abbrev size : Answer → ℕ
 size (accepted t) = nodes (writeOut t)
 size (refused n q) = 0
 
-pub most-nodes : size (read largest) ≡ 2303
-unfolding read loop kind inside readItems heaviest weight nodes writeOut shape chain optional number count
+pub most-nodes : size (read largest) ≡ 2807
+unfolding read loop kind inside readItems heaviest weight nodes writeOut bracketed shape chain optional number count
 most-nodes = refl
+
+-- The fields of the written-out pattern in order. ((a)b){2}(c){0}(\\([(])+: copies have one number, a bracket under {0} takes one, `\\(` and `[(]` take none.
+abbrev fieldsIn : Re → List ℕ
+fieldsIn empty = []
+fieldsIn (leaf p s) = []
+fieldsIn (seq x y) = fieldsIn x ++ fieldsIn y
+fieldsIn (alt x y) = fieldsIn x ++ fieldsIn y
+fieldsIn (star x) = fieldsIn x
+fieldsIn (field f x) = f ∷ fieldsIn x
+
+abbrev fieldsOf : Answer → List ℕ
+fieldsOf (accepted t) = brackets t ∷ ninth t ∷ fieldsIn (writeOut t)
+fieldsOf (refused n q) = []
+
+abbrev copied : List ℕ
+copied =
+    40 ∷ 40 ∷ 97 ∷ 41 ∷ 98 ∷ 41 ∷ 123 ∷ 50 ∷ 125 ∷ 40 ∷ 99 ∷ 41 ∷ 123 ∷ 48 ∷ 125 ∷ 40 ∷ 92 ∷ 40 ∷ 91 ∷ 40 ∷ 93 ∷ 41 ∷ 43 ∷ []
+
+pub fields-written : fieldsOf (read copied) ≡ 4 ∷ 23 ∷ 1 ∷ 2 ∷ 1 ∷ 2 ∷ 4 ∷ 4 ∷ []
+unfolding read loop kind inside readItems heaviest weight writeOut bracketed shape chain optional number count ninth
+fields-written = refl
+
+-- Nine brackets: a(b)(c)(()|d)(e)(f)(g)(h)(i). The ninth stands at 25, and is no field.
+abbrev nine : List ℕ
+nine =
+    97 ∷ 40 ∷ 98 ∷ 41 ∷ 40 ∷ 99 ∷ 41 ∷ 40 ∷ 40 ∷ 41 ∷ 124 ∷ 100 ∷ 41 ∷ 40 ∷ 101 ∷ 41 ∷ 40 ∷ 102 ∷ 41 ∷ 40 ∷ 103 ∷ 41 ∷ 40 ∷ 104 ∷ 41 ∷ 40 ∷ 105 ∷ 41 ∷ []
+
+pub ninth-place : fieldsOf (read nine) ≡ 9 ∷ 25 ∷ 1 ∷ 2 ∷ 3 ∷ 4 ∷ 5 ∷ 6 ∷ 7 ∷ 8 ∷ []
+unfolding read loop kind inside readItems heaviest weight writeOut bracketed shape chain optional number count ninth
+ninth-place = refl

@@ -10,6 +10,7 @@ pub mod Right
 pub mod Place
 -- The written-out pattern: its leaves and parts, and its tokens.
 pub mod Size
+pub mod Openings
 pub mod Tokens
 pub mod Suffix
 pub mod Codes

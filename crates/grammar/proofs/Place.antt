@@ -40,7 +40,7 @@ digits-leads : (m : Digits) → Leads (digitsText m)
 digits-leads (one b) s = refl
 digits-leads (two b c) s = refl
 
-repeat-leads : (r : Repeat) → Leads (repeatText r)
+pub repeat-leads : (r : Repeat) → Leads (repeatText r)
 repeat-leads once = λ s. refl
 repeat-leads many = λ s. refl
 repeat-leads more = λ s. refl
@@ -60,12 +60,12 @@ mutual
   alternation-leads (last q) s = sequence-leads q s
   alternation-leads (or q t) s = then (sequence q) (λ s. 124 ∷ alternation t s) (λ s. sequence-leads q s) (mark 124 (alternation t) (λ s. alternation-leads t s)) s
 
-  sequence-leads : (q : Sequence) → Leads (sequence q)
+  pub sequence-leads : (q : Sequence) → Leads (sequence q)
   sequence-leads nothing s = refl
   sequence-leads (part a r q) s =
       then (atom a) (λ s. repeatText r (sequence q s)) (λ s. atom-leads a s) (then (repeatText r) (sequence q) (repeat-leads r) (λ s. sequence-leads q s)) s
 
-  atom-leads : (a : Atom) → Leads (atom a)
+  pub atom-leads : (a : Atom) → Leads (atom a)
   atom-leads (byte x) s = byte-leads x s
   atom-leads dot s = refl
   atom-leads (class true x l) s = ap (λ y. 91 ∷ 94 ∷ y) (class-leads x l s)

@@ -1,23 +1,24 @@
--- The written-out pattern of a pattern within the limits: its leaves are numbered from 0, at most 64, and its nodes are at most 2303.
+-- The written-out pattern of a pattern within the limits: its leaves are numbered from 0, at most 64, and it has no more parts than an array has places.
 -- Assumes nothing.
 use mathlib.Core.Path.{_≡_, refl, sym, ap}
-use Prim.Native.Nat.{ℕ, zero, suc, _+_, _*_, _-_, _≤_, max}
-use mathlib.Core.Bool.{Bool, true, false, _&&_}
+use Prim.Native.Nat.{ℕ, zero, suc, _+_, _*_, _-_, _≤_, _<_, max}
+use mathlib.Core.Bool.{Bool, true, false, _&&_, cond}
 use mathlib.Core.List.{List, [], _∷_, _++_}
 use native.Mathlib.Omega.{arith}
 use native.Mathlib.Nat.{zero-mul, suc-mul, one-mul, mul-add, add-mul, mul-assoc, mul-le-mul-left, mul-le-mul-right}
 use lib.ListN.{replicate}
-use lib.Dec.{leb, leb→le, T}
-use Rattle.theory.specs.Pattern.{Re, empty, leaf, seq, alt, star, count, Numbered, number}
+use lib.Dec.{leb, leb→le, ltb, ltb→lt, T}
+use Rattle.theory.specs.Pattern.{Re, empty, leaf, seq, alt, star, field, count, Numbered, number}
 use Rattle.theory.proofs.Numbering.{number-count, number-right}
 use Rattle.grammar.specs.Grammar.{Digits, digitsValue, Repeat, once, many, more, maybe, exactly, atLeast, between, Alternation, last, or, Sequence, nothing, part, Atom, byte, dot, class, group, WfAlternation, WfSequence, WfAtom, WfRepeat}
 use Rattle.grammar.specs.Limits.{depth, depthSequence, depthAtom, times, repeated, weight, weights, weightAtom, heaviest, Reads}
-use Rattle.grammar.specs.Code.Tokens.{nodes}
-use Rattle.grammar.specs.WriteOut.{chain, optional, repeatOf, shape, parts, shapeAtom, writeOut}
+use Rattle.grammar.specs.Brackets.{bracketsWithin, bracketsAtom, maxFields}
+use Rattle.grammar.specs.Code.Tokens.{nodes, maxParts}
+use Rattle.grammar.specs.WriteOut.{chain, optional, repeatOf, bracketed, shape, parts, shapeAtom, writeOut}
 
 pub writeOut-numbered : (t : Alternation) → Numbered 0 (writeOut t)
 unfolding writeOut
-writeOut-numbered t = number-right 0 (shape t)
+writeOut-numbered t = number-right 0 (shape t 0)
 
 pub number-nodes : (n : ℕ) (r : Re) → nodes (number n r) ≡ nodes r
 unfolding number nodes
@@ -26,6 +27,7 @@ number-nodes n (leaf p s) = refl
 number-nodes n (seq x y) = rw (number-nodes n x, number-nodes (n + count x) y)
 number-nodes n (alt x y) = rw (number-nodes n x, number-nodes (n + count x) y)
 number-nodes n (star x) = rw (number-nodes n x)
+number-nodes n (field f x) = rw (number-nodes n x)
 
 -- A measure that a sequence adds up: the leaves (with e = 0), and the nodes with one more for each part.
 leaves : List Re → ℕ
@@ -87,22 +89,30 @@ unfolding weight
 weight-pos (last q) = omega arith
 weight-pos (or q t) = omega arith
 
+count-bracketed : (n : ℕ) (x : Re) → count (bracketed n x) ≡ count x
+unfolding bracketed count
+count-bracketed n x = go (ltb n maxFields)
+  where
+    go : (c : Bool) → count (cond c (field (suc n) x) x) ≡ count x
+    go true = refl
+    go false = refl
+
 mutual
   unfolding count leaves shape weight
 
-  count-alternation : (t : Alternation) → WfAlternation t → count (shape t) ≤ weight t
-  count-alternation (last q) w = omega (arith, count-chain-le (parts q), count-parts q w)
-  count-alternation (or q t) w = omega (arith, count-chain-le (parts q), count-parts q (w .0), count-alternation t (w .1))
+  count-alternation : (t : Alternation) (n : ℕ) → WfAlternation t → count (shape t n) ≤ weight t
+  count-alternation (last q) n w = omega (arith, count-chain-le (parts q n), count-parts q n w)
+  count-alternation (or q t) n w = omega (arith, count-chain-le (parts q n), count-parts q n (w .0), count-alternation t (n + bracketsWithin q) (w .1))
 
-  count-parts : (q : Sequence) → WfSequence q → leaves (parts q) ≤ weights q
-  count-parts nothing w = omega arith
-  count-parts (part a r q) w = omega (arith, count-repeat r (shapeAtom a) (weightAtom a) (w .1) (count-atom a (w .0)), count-parts q (w .2))
+  count-parts : (q : Sequence) (n : ℕ) → WfSequence q → leaves (parts q n) ≤ weights q
+  count-parts nothing n w = omega arith
+  count-parts (part a r q) n w = omega (arith, count-repeat r (shapeAtom a n) (weightAtom a) (w .1) (count-atom a n (w .0)), count-parts q (n + bracketsAtom a) (w .2))
 
-  count-atom : (a : Atom) → WfAtom a → count (shapeAtom a) ≤ weightAtom a
-  count-atom (byte x) w = omega arith
-  count-atom dot w = omega arith
-  count-atom (class c x l) w = omega arith
-  count-atom (group t) w = count-alternation t w
+  count-atom : (a : Atom) (n : ℕ) → WfAtom a → count (shapeAtom a n) ≤ weightAtom a
+  count-atom (byte x) n w = omega arith
+  count-atom dot n w = omega arith
+  count-atom (class c x l) n w = omega arith
+  count-atom (group t) n w = omega (arith, count-bracketed n (shape t (suc n)), count-alternation t (suc n) w)
 
 pub weight-heaviest : (t : Alternation) → weight t ≤ heaviest t
 unfolding heaviest
@@ -111,7 +121,7 @@ weight-heaviest (or q t) = omega arith
 
 pub leaves-64 : (p : List ℕ) (t : Alternation) → Reads p t → count (writeOut t) ≤ 64
 unfolding writeOut
-leaves-64 p t h = rw (number-count 0 (shape t)) (omega (arith, count-alternation t (h .formed), weight-heaviest t, h .light))
+leaves-64 p t h = rw (number-count 0 (shape t 0)) (omega (arith, count-alternation t 0 (h .formed), weight-heaviest t, h .light))
 
 -- Nodes. One more than the nodes of a part is what a sequence adds up.
 sizes : List Re → ℕ
@@ -188,48 +198,67 @@ at-least w k =
     let b : w ≤ max 1 w = omega arith in
     omega (arith, one-mul k, mul-le-mul-right k a, mul-le-mul-right k b)
 
-deeper : (d : ℕ) → 2 * d + 4 + 2 ≡ 2 * suc d + 4
-deeper d = omega arith
+-- What a unit of weight may have of parts, d brackets deep, after n brackets: two for each bracket around it that has a repeat, and one for each that is a field.
+abbrev share : ℕ → ℕ → ℕ
+share d n = 2 * d + (maxFields - n) + 4
 
 heavy : (p : List ℕ) (t : Alternation) → Reads p t → weight t ≤ 64
 heavy p t h = omega (arith, weight-heaviest t, h .light)
 
+-- A bracket that is a field takes one from the share of its parts, and a further part that comes after more brackets has no larger share.
+fewer : (w d n k : ℕ) → w * share d (n + k) ≤ w * share d n
+fewer w d n k = mul-le-mul-left w (omega arith)
+
+nodes-bracketed : (n w d : ℕ) (x : Re) → 1 ≤ w → suc (nodes x) ≤ w * share d (suc n) → suc (nodes (bracketed n x)) + 2 ≤ w * share (suc d) n
+unfolding bracketed nodes
+nodes-bracketed n w d x h l = go (ltb n maxFields) (λ t. ltb→lt n maxFields t)
+  where
+    go : (c : Bool) → (T c → n < maxFields) → suc (nodes (cond c (field (suc n) x) x)) + 2 ≤ w * share (suc d) n
+    go true k =
+        let g = k tt in
+        let e : share (suc d) n ≡ share d (suc n) + 3 = omega arith in
+        omega (arith, ap (λ j. w * j) e, mul-add w (share d (suc n)) 3)
+    go false k =
+        let e : share d (suc n) + 2 ≤ share (suc d) n = omega arith in
+        omega (arith, mul-le-mul-left w e, mul-add w (share d (suc n)) 2)
+
 mutual
   unfolding nodes sizes shape weight
 
-  nodes-alternation : (t : Alternation) (d : ℕ) → WfAlternation t → depth t ≤ d → suc (nodes (shape t)) ≤ weight t * (2 * d + 4)
-  nodes-alternation (last q) d w h =
-      omega (arith, nodes-chain-le (parts q), nodes-parts q d w h, at-least (weights q) (2 * d + 4))
-  nodes-alternation (or q t) d w h =
+  nodes-alternation : (t : Alternation) (d n : ℕ) → WfAlternation t → depth t ≤ d → suc (nodes (shape t n)) ≤ weight t * share d n
+  nodes-alternation (last q) d n w h =
+      omega (arith, nodes-chain-le (parts q n), nodes-parts q d n w h, at-least (weights q) (share d n))
+  nodes-alternation (or q t) d n w h =
       omega (
         arith,
-        nodes-chain-le (parts q),
-        nodes-parts q d (w .0) (omega arith),
-        at-least (weights q) (2 * d + 4),
-        nodes-alternation t d (w .1) (omega arith),
-        add-mul (max 1 (weights q)) (weight t) (2 * d + 4),
+        nodes-chain-le (parts q n),
+        nodes-parts q d n (w .0) (omega arith),
+        at-least (weights q) (share d n),
+        nodes-alternation t d (n + bracketsWithin q) (w .1) (omega arith),
+        fewer (weight t) d n (bracketsWithin q),
+        add-mul (max 1 (weights q)) (weight t) (share d n),
       )
 
-  nodes-parts : (q : Sequence) (d : ℕ) → WfSequence q → depthSequence q ≤ d → sizes (parts q) ≤ weights q * (2 * d + 4)
-  nodes-parts nothing d w h = omega arith
-  nodes-parts (part a r q) d w h =
+  nodes-parts : (q : Sequence) (d n : ℕ) → WfSequence q → depthSequence q ≤ d → sizes (parts q n) ≤ weights q * share d n
+  nodes-parts nothing d n w h = omega arith
+  nodes-parts (part a r q) d n w h =
       omega (
         arith,
-        nodes-repeat r (shapeAtom a) (weightAtom a) (2 * d + 4) (w .1) (nodes-atom a d (w .0) (omega arith)) (omega arith),
-        nodes-parts q d (w .2) (omega arith),
-        add-mul (repeated r (weightAtom a)) (weights q) (2 * d + 4),
+        nodes-repeat r (shapeAtom a n) (weightAtom a) (share d n) (w .1) (nodes-atom a d n (w .0) (omega arith)) (omega arith),
+        nodes-parts q d (n + bracketsAtom a) (w .2) (omega arith),
+        fewer (weights q) d n (bracketsAtom a),
+        add-mul (repeated r (weightAtom a)) (weights q) (share d n),
       )
 
-  nodes-atom : (a : Atom) (d : ℕ) → WfAtom a → depthAtom a ≤ d → suc (nodes (shapeAtom a)) + 2 ≤ weightAtom a * (2 * d + 4)
-  nodes-atom (byte x) d w h = omega (arith, one-mul (2 * d + 4))
-  nodes-atom dot d w h = omega (arith, one-mul (2 * d + 4))
-  nodes-atom (class c x l) d w h = omega (arith, one-mul (2 * d + 4))
-  nodes-atom (group t) zero w h = absurd (omega arith)
-  nodes-atom (group t) (suc d) w h =
-      omega (arith, nodes-alternation t d w (omega arith), weight-pos t, mul-add (weight t) (2 * d + 4) 2, ap (λ j. weight t * j) (deeper d))
+  nodes-atom : (a : Atom) (d n : ℕ) → WfAtom a → depthAtom a ≤ d → suc (nodes (shapeAtom a n)) + 2 ≤ weightAtom a * share d n
+  nodes-atom (byte x) d n w h = omega (arith, one-mul (share d n))
+  nodes-atom dot d n w h = omega (arith, one-mul (share d n))
+  nodes-atom (class c x l) d n w h = omega (arith, one-mul (share d n))
+  nodes-atom (group t) zero n w h = absurd (omega arith)
+  nodes-atom (group t) (suc d) n w h = nodes-bracketed n (weight t) d (shape t (suc n)) (weight-pos t) (nodes-alternation t d (suc n) w (omega arith))
 
-pub nodes-2303 : (p : List ℕ) (t : Alternation) → Reads p t → nodes (writeOut t) ≤ 2303
+pub nodes-within : (p : List ℕ) (t : Alternation) → Reads p t → nodes (writeOut t) ≤ maxParts
 unfolding writeOut
-nodes-2303 p t h =
-    rw (number-nodes 0 (shape t))
-    (omega (arith, nodes-alternation t 16 (h .formed) (h .shallow), mul-le-mul-right 36 (heavy p t h)))
+nodes-within p t h =
+    rw (number-nodes 0 (shape t 0))
+    (omega (arith, nodes-alternation t 16 0 (h .formed) (h .shallow), mul-le-mul-right 44 (heavy p t h)))

@@ -6,8 +6,9 @@ use mathlib.Core.List.{List, [], _∷_, _++_, append-assoc, append-nil}
 use native.Mathlib.Omega.{arith}
 use lib.ListN.{length, getD, length-append}
 use lib.Seq.{getD-append-add}
-use Rattle.theory.specs.Pattern.{Re, empty, leaf, seq, alt, star, count, number}
+use Rattle.theory.specs.Pattern.{Re, empty, leaf, seq, alt, star, field, count, number}
 use Rattle.grammar.specs.Code.Tokens.{nodes, Token, nil, both, or, many, byte, tokens, decode, renumber, leafs}
+use Rattle.grammar.specs.Code.Tokens as Tokens
 
 pub tokens-length : (r : Re) → length (tokens r) ≡ nodes r
 unfolding tokens nodes
@@ -16,6 +17,7 @@ tokens-length (leaf p s) = refl
 tokens-length (seq x y) = omega (arith, length-append (tokens x) (tokens y ++ (both ∷ [])), length-append (tokens y) (both ∷ []), tokens-length x, tokens-length y)
 tokens-length (alt x y) = omega (arith, length-append (tokens x) (tokens y ++ (or ∷ [])), length-append (tokens y) (or ∷ []), tokens-length x, tokens-length y)
 tokens-length (star x) = omega (arith, length-append (tokens x) (many ∷ []), tokens-length x)
+tokens-length (field f x) = omega (arith, length-append (tokens x) (Tokens.field f ∷ []), tokens-length x)
 
 pub decode-tokens : (r : Re) (l : List Token) (k : List Re) → decode (tokens r ++ l) k ≡ decode l (r ∷ k)
 unfolding tokens decode
@@ -26,6 +28,7 @@ decode-tokens (seq x y) l k =
 decode-tokens (alt x y) l k =
     rw (append-assoc (tokens x) (tokens y ++ (or ∷ [])) l, append-assoc (tokens y) (or ∷ []) l, decode-tokens x (tokens y ++ (or ∷ l)) k, decode-tokens y (or ∷ l) (x ∷ k)) refl
 decode-tokens (star x) l k = rw (append-assoc (tokens x) (many ∷ []) l, decode-tokens x (many ∷ l) k) refl
+decode-tokens (field f x) l k = rw (append-assoc (tokens x) (Tokens.field f ∷ []) l, decode-tokens x (Tokens.field f ∷ l) k) refl
 
 pub tokens-injective : (x y : Re) → tokens x ≡ tokens y → x ≡ y
 unfolding decode
@@ -46,6 +49,7 @@ nodes-pos (leaf p s) = omega arith
 nodes-pos (seq x y) = omega arith
 nodes-pos (alt x y) = omega arith
 nodes-pos (star x) = omega arith
+nodes-pos (field f x) = omega arith
 
 pub at-whole : (r : Re) (n : ℕ) → suc n ≡ nodes r → At (tokens r) n r
 at-whole r n e = at [] [] (append-nil (tokens r)) (omega arith)
@@ -75,9 +79,17 @@ pub alt-left : (l : List Token) (n : ℕ) (x y : Re) → At l n (alt x y) → At
 unfolding tokens nodes
 alt-left l n x y = pair-left l n x y (alt x y) or refl refl
 
+-- A part of one part.
+only-part : (l : List Token) (n : ℕ) (x r : Re) (t : Token) → tokens r ≡ tokens x ++ (t ∷ []) → nodes r ≡ suc (nodes x) → At l n r → At l (n - 1) x
+only-part l n x r t is size (at a z e h) = at a (t ∷ z) (simp append-assoc at (rw is at e)) (omega (arith, nodes-pos x))
+
 pub star-part : (l : List Token) (n : ℕ) (x : Re) → At l n (star x) → At l (n - 1) x
 unfolding tokens nodes
-star-part l n x (at a z e h) = at a (many ∷ z) (simp append-assoc at e) (omega (arith, nodes-pos x))
+star-part l n x = only-part l n x (star x) many refl refl
+
+pub field-part : (l : List Token) (n f : ℕ) (x : Re) → At l n (field f x) → At l (n - 1) x
+unfolding tokens nodes
+field-part l n f x = only-part l n x (field f x) (Tokens.field f) refl refl
 
 abbrev pub head : Re → Token
 head empty = nil
@@ -85,6 +97,7 @@ head (leaf p s) = byte p s
 head (seq x y) = both
 head (alt x y) = or
 head (star x) = many
+head (field f x) = Tokens.field f
 
 tokens-last : (r : Re) → (b : List Token) × (tokens r ≡ b ++ (head r ∷ []))
 unfolding tokens
@@ -93,6 +106,7 @@ tokens-last (leaf p s) = ([], refl)
 tokens-last (seq x y) = (tokens x ++ tokens y, sym (append-assoc (tokens x) (tokens y) (both ∷ [])))
 tokens-last (alt x y) = (tokens x ++ tokens y, sym (append-assoc (tokens x) (tokens y) (or ∷ [])))
 tokens-last (star x) = (tokens x, refl)
+tokens-last (field f x) = (tokens x, refl)
 
 -- The part's last token is at the place.
 pub at-token : (l : List Token) (n : ℕ) (r : Re) → At l n r → getD l n nil ≡ head r
@@ -112,6 +126,7 @@ renumber-append n (nil ∷ l) m = ap (λ k. nil ∷ k) (renumber-append n l m)
 renumber-append n (both ∷ l) m = ap (λ k. both ∷ k) (renumber-append n l m)
 renumber-append n (or ∷ l) m = ap (λ k. or ∷ k) (renumber-append n l m)
 renumber-append n (many ∷ l) m = ap (λ k. many ∷ k) (renumber-append n l m)
+renumber-append n (Tokens.field f ∷ l) m = ap (λ k. Tokens.field f ∷ k) (renumber-append n l m)
 renumber-append n (byte p s ∷ l) m =
     let e : suc n + leafs l ≡ n + suc (leafs l) = omega arith in
     ap (λ k. byte n s ∷ k) (renumber-append (suc n) l m ∙ ap (λ k. renumber (suc n) l ++ renumber k m) e)
@@ -123,6 +138,7 @@ leafs-append (nil ∷ l) m = leafs-append l m
 leafs-append (both ∷ l) m = leafs-append l m
 leafs-append (or ∷ l) m = leafs-append l m
 leafs-append (many ∷ l) m = leafs-append l m
+leafs-append (Tokens.field f ∷ l) m = leafs-append l m
 leafs-append (byte p s ∷ l) m = omega (arith, leafs-append l m)
 
 pub leafs-tokens : (r : Re) → leafs (tokens r) ≡ count r
@@ -132,6 +148,7 @@ leafs-tokens (leaf p s) = refl
 leafs-tokens (seq x y) = omega (arith, leafs-append (tokens x) (tokens y ++ (both ∷ [])), leafs-append (tokens y) (both ∷ []), leafs-tokens x, leafs-tokens y)
 leafs-tokens (alt x y) = omega (arith, leafs-append (tokens x) (tokens y ++ (or ∷ [])), leafs-append (tokens y) (or ∷ []), leafs-tokens x, leafs-tokens y)
 leafs-tokens (star x) = omega (arith, leafs-append (tokens x) (many ∷ []), leafs-tokens x)
+leafs-tokens (field f x) = omega (arith, leafs-append (tokens x) (Tokens.field f ∷ []), leafs-tokens x)
 
 pub tokens-number : (n : ℕ) (r : Re) → tokens (number n r) ≡ renumber n (tokens r)
 unfolding tokens number renumber
@@ -142,3 +159,4 @@ tokens-number n (seq x y) =
 tokens-number n (alt x y) =
     rw (renumber-append n (tokens x) (tokens y ++ (or ∷ [])), renumber-append (n + leafs (tokens x)) (tokens y) (or ∷ []), leafs-tokens x, tokens-number n x, tokens-number (n + count x) y) refl
 tokens-number n (star x) = rw (renumber-append n (tokens x) (many ∷ []), tokens-number n x) refl
+tokens-number n (field f x) = rw (renumber-append n (tokens x) (Tokens.field f ∷ []), tokens-number n x) refl

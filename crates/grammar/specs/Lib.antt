@@ -3,6 +3,7 @@
 pub mod Grammar
 pub mod Limits
 pub mod Sets
+pub mod Brackets
 pub mod WriteOut
 pub mod Before
 pub mod Refusals

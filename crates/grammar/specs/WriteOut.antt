@@ -1,13 +1,14 @@
--- "Repeats are written out", and "leaves of the written-out pattern are numbered from 0, left to right".
+-- "Repeats are written out", and "leaves of the written-out pattern are numbered from 0, left to right". Fields are numbered by the text's opening brackets (request 2).
 -- Assumes nothing.
-use Prim.Native.Nat.{ℕ, zero, suc, _-_}
-use mathlib.Core.Bool.{Bool, not, _&&_}
+use Prim.Native.Nat.{ℕ, zero, suc, _+_, _-_}
+use mathlib.Core.Bool.{Bool, not, _&&_, cond}
 use mathlib.Core.List.{List, [], _∷_, _++_}
 use lib.ListN.{replicate}
 use lib.Dec.{eqb, ltb}
-use Rattle.theory.specs.Pattern.{Re, empty, leaf, seq, star, alt, opt, number}
+use Rattle.theory.specs.Pattern.{Re, empty, leaf, seq, star, alt, field, opt, number}
 use Rattle.grammar.specs.Grammar.{value, digitsValue, Repeat, once, many, more, maybe, exactly, atLeast, between, Alternation, last, or, Sequence, nothing, part, Atom, byte, dot, class, group}
 use Rattle.grammar.specs.Sets.{inClass}
+use Rattle.grammar.specs.Brackets.{bracketsWithin, bracketsAtom, maxFields}
 
 -- A leaf with its set of bytes, its number still to come. No number from 256 on is a byte.
 abbrev pub leafOf : (ℕ → Bool) → Re
@@ -34,22 +35,26 @@ repeatOf (exactly m) x = chain (replicate (digitsValue m) x)
 repeatOf (atLeast m) x = chain (replicate (digitsValue m) x ++ (star x ∷ []))
 repeatOf (between m n) x = chain (replicate (digitsValue m) x ++ optional (digitsValue n - digitsValue m) x)
 
--- The parts, their leaves not yet numbered. "`.` is every byte but 10."
+-- The bracket after n others: "field 1 is the first opening `(`, and so on". A ninth bracket and those after it are no fields.
+unfoldable pub bracketed : ℕ → Re → Re
+bracketed n x = cond (ltb n maxFields) (field (suc n) x) x
+
+-- The parts after n opening brackets, their leaves not yet numbered. "`.` is every byte but 10." "Copies written out by a repeat belong to the same field."
 unfoldable mutual
-  pub shape : Alternation → Re
-  shape (last q) = chain (parts q)
-  shape (or q t) = alt (chain (parts q)) (shape t)
+  pub shape : Alternation → ℕ → Re
+  shape (last q) n = chain (parts q n)
+  shape (or q t) n = alt (chain (parts q n)) (shape t (n + bracketsWithin q))
 
-  pub parts : Sequence → List Re
-  parts nothing = []
-  parts (part a r q) = repeatOf r (shapeAtom a) ∷ parts q
+  pub parts : Sequence → ℕ → List Re
+  parts nothing n = []
+  parts (part a r q) n = repeatOf r (shapeAtom a n) ∷ parts q (n + bracketsAtom a)
 
-  pub shapeAtom : Atom → Re
-  shapeAtom (byte x) = leafOf (λ b. eqb b (value x))
-  shapeAtom dot = leafOf (λ b. not (eqb b 10))
-  shapeAtom (class c x l) = leafOf (inClass c (x ∷ l))
-  shapeAtom (group t) = shape t
+  pub shapeAtom : Atom → ℕ → Re
+  shapeAtom (byte x) n = leafOf (λ b. eqb b (value x))
+  shapeAtom dot n = leafOf (λ b. not (eqb b 10))
+  shapeAtom (class c x l) n = leafOf (inClass c (x ∷ l))
+  shapeAtom (group t) n = bracketed n (shape t (suc n))
 
 -- The "written-out pattern" of a tree.
 unfoldable pub writeOut : Alternation → Re
-writeOut t = number 0 (shape t)
+writeOut t = number 0 (shape t 0)

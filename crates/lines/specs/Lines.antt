@@ -3,12 +3,21 @@
 use mathlib.Core.Path.{_≡_}
 use mathlib.Core.Bool.{Bool, true, false, cond}
 use mathlib.Core.List.{List, [], _∷_, _++_}
-use Prim.Native.Nat.{ℕ, _<_}
+use Prim.Native.Nat.{ℕ, _≤_, _<_}
 use lib.Dec.{eqb, ltb}
-use lib.ListN.{take, drop}
+use lib.ListN.{length, getD, take, drop}
 use Rattle.lines.specs.declared.Source.{Source}
 use Rattle.lines.specs.declared.Source.the-variants.{Open, Over, Unread, Unwritten}
 use Rattle.lines.specs.declared.State.{State}
+
+-- The text begins with the word,
+abbrev pub Begins : List ℕ → List ℕ → Type 0
+Begins s word = (length word ≤ length s) × ((k : ℕ) → k < length word → getD s k 0 ≡ getD word k 0)
+
+-- and whether it does.
+pub record BeginsWith (s word : List ℕ) (r : Bool) : Type 0 where
+  pub yes : r ≡ true → Begins s word
+  pub no : r ≡ false → Begins s word → ⊥
 
 -- The bytes before the first newline, 10; all of them if there is none.
 abbrev pub upTo : List ℕ → List ℕ

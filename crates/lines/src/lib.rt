@@ -6,9 +6,9 @@ ghost use mathlib.Core.Bool.{false};
 ghost use mathlib.Core.List.{List, []};
 ghost use Prim.Native.Nat.{_+_, _≤_};
 ghost use lib.Dec.{leb};
-ghost use lib.ListN.{length, take};
+ghost use lib.ListN.{drop, length, take};
 ghost use Rattle.lines.specs.declared.Source.the-variants.{Open};
-ghost use Rattle.lines.specs.Lines.{NextLine, goesOn, FirstLine};
+ghost use Rattle.lines.specs.Lines.{BeginsWith, NextLine, goesOn, FirstLine};
 ghost use Rattle.lines.specs.Exchange.{Written, movedTo, hasBegun, Exchanged, Took, ReadMore, finished, faultLine};
 ghost use Rattle.lines.specs.Steps.{Kept, KeptNow, isOpen, wantsLine};
 use libc::STDERR_FILENO;
@@ -65,6 +65,33 @@ pub fn first_of(s: &[u8], n: usize) -> &[u8]
         return &s[..n];
     }
     s
+}
+
+// What comes after the first bytes that are skipped: nothing where there are fewer.
+pub fn past_first(s: &[u8], skip: usize) -> &[u8]
+    ensures part { λ r. ⌜ now r ≡ drop skip (now (s .entry)) ⌝ }
+{
+    if skip < s.len() {
+        return &s[skip..];
+    }
+    &s[s.len()..]
+}
+
+// Whether the first bytes are those of the word.
+pub fn begins_with<'a>(s: &'a [u8], word: &'a [u8]) -> bool
+    ensures begins { λ r. ⌜ BeginsWith (now (s .entry)) (now (word .entry)) r ⌝ }
+{
+    if s.len() < word.len() {
+        return false;
+    }
+    let mut i = 0;
+    while i < word.len() {
+        if s[i] != word[i] {
+            return false;
+        }
+        i += 1;
+    }
+    true
 }
 
 // How many bytes are kept of a line that has begun.

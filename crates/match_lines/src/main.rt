@@ -2,50 +2,10 @@
 // A refused pattern prints its refusal only. Lines may have any length; input and output go by chunks, so memory stays the same. What is known is printed before
 // more is read. A failed read or write ends the program with a line on standard error.
 ghost use mathlib.Core.Path.{_≡_};
-ghost use Rattle.lines.specs.Exchange.{Finished};
 use lines::KEPT;
 use lines::SIZE;
 use lines::State;
 use reader::Answer;
-
-// Answers the order lines of the input, until it is over or a read or a write fails.
-fn run<'a>(
-    chunk: &mut [u8; SIZE],
-    line: &mut [u8; KEPT],
-    out: &mut [u8; SIZE],
-    masks: &'a [u64; 256],
-    rows: &'a [u8; 4225],
-    lens: &'a [u8; 65],
-    sets: &'a [u64; 65],
-    ends: &'a [u8; 65],
-    next: &'a [u64; 257],
-    hows: &'a [u8; 10],
-    first: State,
-) -> State
-    ensures { λ r. ⌜ Finished r ⌝ }
-{
-    let mut s = first;
-    s.used = 0;
-    let mut turns = u64::MAX;
-    while turns > 0 && lines::goes_on(s) {
-        s = orders::answer_lines(
-            chunk,
-            line,
-            out,
-            masks,
-            rows,
-            lens,
-            sets,
-            ends,
-            next,
-            hows,
-            s,
-        );
-        s = lines::exchange(chunk, out, s);
-        turns -= 1;
-    }
-    lines::finish(s)
-}
 
 // Prepares the pattern on the first line, and prints its refusal or answers the order lines. Nothing waits then.
 fn serve(
@@ -65,10 +25,13 @@ fn serve(
 {
     let answer = orders::prepare(line, first, masks, rows, lens, sets, ends, next, hows);
     let Answer::Refused { number, place } = answer else {
-        return run(
+        let marks = [0u16; 4225];
+        return orders::run(
             chunk,
             line,
             out,
+            false,
+            0,
             masks,
             rows,
             lens,
@@ -76,6 +39,7 @@ fn serve(
             ends,
             next,
             hows,
+            &marks,
             first,
         );
     };

@@ -18,18 +18,19 @@ use Rattle.grammar.proofs.Right.{unambiguous, not-both}
 use Rattle.reader.specs.declared.Answer.{Answer}
 use Rattle.matchers.specs.Tables.{Tables, Ready}
 use Rattle.readings.specs.Tables.{Prepared, ready, refused}
+use Rattle.fields.specs.Cuts.{lent}
 use Rattle.printing.specs.Text.{Printed, RefusedLine, SpansLine, noneLine}
 use Rattle.lines.specs.declared.State.{State}
 use Rattle.lines.specs.Lines.{kept}
 use Rattle.lines.specs.Answers.{Served}
-use Rattle.orders.specs.Orders.{OrderLine, long, cut, uncut, Answered, OrderAnswer, OrdersServed}
+use Rattle.orders.specs.Orders.{OrderLine, FieldsOrder, spans, fields, Answered, OrderAnswer, OrdersServed}
 
 -- 9 for a line above 1,024 bytes; else the spans that demand 2 asks for, or 'none' where no part of the line matches.
 pub order-means : {r : Re} {l w : List ℕ} → OrderLine r l w
     → ((1024 < length l) × RefusedLine 9 0 w) ⊎ (((i j k : ℕ) × GreedyTakes r l i j × PosixTakes r l i k × SpansLine i j k w) ⊎ (NoMatch r l × (w ≡ noneLine)))
-order-means (long h is) = inl (h, is)
-order-means {r} {l} (cut {i} {j} {k} h g p is) = inr (inl (i, j, k, greedy-takes r l i j .0 g, posix-takes r l i k .0 p, is))
-order-means {r} {l} (uncut h g p is) = inr (inr (greedy-none r l .0 g, is))
+order-means (OrderLine.long h is) = inl (h, is)
+order-means {r} {l} (OrderLine.cut {i} {j} {k} h g p is) = inr (inl (i, j, k, greedy-takes r l i j .0 g, posix-takes r l i k .0 p, is))
+order-means {r} {l} (OrderLine.uncut h g p is) = inr (inr (greedy-none r l .0 g, is))
 
 -- WHAT IS KEPT IS ENOUGH: an order line and its first 1,025 bytes have the same answer.
 pub order-kept : (r : Re) (l w : List ℕ) → OrderLine r (kept l) w ↔ OrderLine r l w
@@ -43,14 +44,14 @@ order-kept r l w =
     size h = let p : length (kept l) ≡ min 1025 (length l) = length-take 1025 l in omega arith
 
     again : 1024 < length l → OrderLine r (kept l) w → OrderLine r l w
-    again h (long i is) = long h is
-    again h (cut i g p is) = absurd (let z = size h in omega arith)
-    again h (uncut i g p is) = absurd (let z = size h in omega arith)
+    again h (OrderLine.long i is) = OrderLine.long h is
+    again h (OrderLine.cut i g p is) = absurd (let z = size h in omega arith)
+    again h (OrderLine.uncut i g p is) = absurd (let z = size h in omega arith)
 
     first : 1024 < length l → OrderLine r l w → OrderLine r (kept l) w
-    first h (long i is) = long (let z = size h in omega arith) is
-    first h (cut i g p is) = absurd (omega arith)
-    first h (uncut i g p is) = absurd (omega arith)
+    first h (OrderLine.long i is) = OrderLine.long (let z = size h in omega arith) is
+    first h (OrderLine.cut i g p is) = absurd (omega arith)
+    first h (OrderLine.uncut i g p is) = absurd (omega arith)
 
 -- The tables that a pattern of the grammar is prepared with are its own,
 module _ {p : List ℕ} (a : Alternation) (reads : Reads p a) {old new : Tables} {x : Answer} (prepared : Prepared p old x new) where
@@ -62,10 +63,10 @@ module _ {p : List ℕ} (a : Alternation) (reads : Reads p a) {old new : Tables}
       go (refused {n = n} {k = k} e f q) = absurd (not-both p a n k reads f)
 
   -- THE ANSWER TO AN ORDER LINE IS THE PATTERN'S, whatever the line: nothing is left to be asked of the tables.
-  pub order-answered : {l out out′ : List ℕ} {n m : ℕ} → Answered new l out n out′ m → Printed 97 (OrderLine (writeOut a) l) out n out′ m
-  order-answered h = h .answered own-tables
+  pub order-answered : {marks l out out′ : List ℕ} {n m : ℕ} → Answered spans (lent new marks) l out n out′ m → Printed 392 (OrderLine (writeOut a) l) out n out′ m
+  order-answered h = h .answered (writeOut a) own-tables
 
   -- and so are the answers to the lines of a chunk.
-  pub orders-answered : {chunk line out line′ out′ : List ℕ} {s t : State} → OrdersServed new chunk line out s line′ out′ t
-      → Served (OrderAnswer (writeOut a)) 97 chunk line out tt s line′ out′ tt t
-  orders-answered h = h .served own-tables
+  pub orders-answered : {marks chunk line out line′ out′ : List ℕ} {s t : State} → OrdersServed spans (lent new marks) chunk line out s line′ out′ t
+      → Served (OrderAnswer spans (writeOut a)) 392 chunk line out tt s line′ out′ tt t
+  orders-answered h = h .served (writeOut a) own-tables

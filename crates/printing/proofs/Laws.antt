@@ -1,8 +1,9 @@
 -- What is appended to a buffer: one text after another, nothing, a byte, and a text past the end. Bytes in hex. A number has one text.
 -- Assumes nothing.
-use mathlib.Core.Path.{_≡_, refl, sym, ap, _∙_}
-use Prim.Native.Nat.{ℕ, _+_, _*_, _-_, _≤_, _<_, _/_, _%_, _^_, min}
-use mathlib.Core.Bool.{Bool, true, false, not}
+use mathlib.Core.Path.{_≡_, refl, sym, ap, _∙_, subst}
+use Prim.Native.Nat.{ℕ, suc, _+_, _*_, _-_, _≤_, _<_, _/_, _%_, _^_, min}
+use mathlib.Core.Bool.{Bool, true, false, not, cond}
+use mathlib.Core.Option.{none, some}
 use mathlib.Core.List.{List, [], _∷_, _++_, append-assoc, append-nil}
 use native.Mathlib.Omega.{arith}
 use native.Mathlib.Numerals.{add-one}
@@ -11,8 +12,8 @@ use lib.Dec.{T, leb, leb→le, nleb→lt}
 use lib.ListN.{length, take, getD, set, length-append, length-take, length-set}
 use lib.Seq.{take-all, take-append-le, take-suc, take-suc-set, take-take, length-take-le}
 use Rattle.io.specs.Digits.{glyph, digits, Fewest}
-use Rattle.printing.specs.Text.{Appended, Field, hex, Printed}
-use Rattle.printing.specs.Puts.{Put}
+use Rattle.printing.specs.Text.{Appended, Field, hex, Printed, no-pairs, absent, between, pairAt, pairsOf}
+use Rattle.printing.specs.Puts.{Put, PutField, PutPair, PutPairs}
 
 -- A part of x that is cut off does not count past the first m bytes.
 take-cut : (k m : ℕ) (x y : List ℕ) → (k < length x → m ≤ k) → take m (take k x ++ y) ≡ take m (x ++ y)
@@ -183,3 +184,42 @@ fits {a} {b} {n} {m} {w} f h =
 -- A line of at most k bytes has at most m.
 pub printed-most : {k m n i : ℕ} {L : List ℕ → Type 0} {a b : List ℕ} → k ≤ m → Printed k L a n b i → Printed m L a n b i
 printed-most h (w, l, s, t) = (w, l, omega arith, t)
+
+-- What the brackets take: one after another, each of at most 42 bytes.
+pub put-between : {a b c : List ℕ} {n m k x y : ℕ} {here : Bool} → here ≡ true → PutField x a n b m → PutField y b m c k → PutPair (cond here (some (x, y)) none) a n c k
+put-between e f g = rw e (record {
+  text = f .text ++ g .text;
+  more = λ p. between p (f .field) (g .field);
+  most = omega (arith, length-append (f .text) (g .text), f .most, g .most);
+  put = appended-join (f .put) (g .put);
+})
+
+pub put-absent : {a b : List ℕ} {n m : ℕ} {here : Bool} (x y : ℕ) → here ≡ false → Put a n (32 ∷ 45 ∷ []) b m → PutPair (cond here (some (x, y)) none) a n b m
+put-absent x y e p = rw e (record { text = 32 ∷ 45 ∷ []; more = λ q. absent q; most = omega arith; put = p })
+
+pub put-no-pairs : {a b : List ℕ} {n m known : ℕ} {places : List ℕ} → Put a n [] b m → PutPairs 0 known places a n b m
+unfolding pairsOf
+put-no-pairs p = record { text = []; pairs = no-pairs; most = omega arith; put = p }
+
+pub put-more-pairs : {a b c : List ℕ} {n m k f known : ℕ} {places : List ℕ} → PutPairs f known places a n b m → PutPair (pairAt known places f) b m c k → PutPairs (f + 1) known places a n c k
+unfolding pairsOf
+put-more-pairs {a = a} {c = c} {n = n} {k = k} {f = f} {known = known} {places = places} p q =
+    let e : suc f ≡ f + 1 = omega arith in
+    subst (λ i. PutPairs i known places a n c k) e (record {
+      text = p .text ++ q .text;
+      pairs = q .more (p .pairs);
+      most = omega (arith, length-append (p .text) (q .text), p .most, q .most);
+      put = appended-join (p .put) (q .put);
+    })
+
+pub fields-size : (word from to second rest : List ℕ) {n : ℕ} → length word ≡ 6 → length second ≡ 7 → length from ≤ 21 → length to ≤ 21 → length rest ≤ 42 * n → n ≤ 8
+    → length (word ++ (from ++ (to ++ (second ++ (rest ++ (10 ∷ [])))))) ≤ 392
+fields-size word from to second rest a b c d e f =
+    omega (
+      arith,
+      length-append word (from ++ (to ++ (second ++ (rest ++ (10 ∷ []))))),
+      length-append from (to ++ (second ++ (rest ++ (10 ∷ [])))),
+      length-append to (second ++ (rest ++ (10 ∷ []))),
+      length-append second (rest ++ (10 ∷ [])),
+      length-append rest (10 ∷ []),
+    )

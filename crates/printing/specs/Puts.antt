@@ -1,10 +1,11 @@
 -- What the steps of a line append.
 -- Assumes nothing.
 use mathlib.Core.Path.{_≡_}
-use Prim.Native.Nat.{ℕ, _≤_}
+use Prim.Native.Nat.{ℕ, _*_, _≤_}
 use mathlib.Core.List.{List, [], _∷_, _++_}
+use mathlib.Core.Option.{Option}
 use lib.ListN.{length}
-use Rattle.printing.specs.Text.{Appended, Field}
+use Rattle.printing.specs.Text.{Appended, Field, Pairs, pairsOf}
 
 -- w is appended, and the buffer keeps its length.
 pub record Put (old : List ℕ) (n : ℕ) (w : List ℕ) (new : List ℕ) (m : ℕ) : Type 0 where
@@ -25,3 +26,17 @@ PutLine k L old n new m = (w : List ℕ) × L w × (length w ≤ k) × Put old n
 -- A line of the kind L without its newline.
 abbrev pub Unended : (List ℕ → Type 0) → List ℕ → Type 0
 Unended L w = L (w ++ (10 ∷ []))
+
+-- The pairs of the brackets up to n are appended, each of at most 42 bytes.
+pub record PutPairs (n known : ℕ) (places : List ℕ) (old : List ℕ) (at : ℕ) (new : List ℕ) (m : ℕ) : Type 0 where
+  pub text : List ℕ
+  pub pairs : Pairs (pairsOf n known places) text
+  pub most : length text ≤ 42 * n
+  pub put : Put old at text new m
+
+-- One more pair is appended.
+pub record PutPair (pair : Option (ℕ × ℕ)) (old : List ℕ) (at : ℕ) (new : List ℕ) (m : ℕ) : Type 0 where
+  pub text : List ℕ
+  pub more : {l : List (Option (ℕ × ℕ))} {w : List ℕ} → Pairs l w → Pairs (l ++ (pair ∷ [])) (w ++ text)
+  pub most : length text ≤ 42
+  pub put : Put old at text new m

@@ -1,9 +1,12 @@
 -- The lines that the programs print (paper 01, "The programs"), as bytes in ASCII, and what it is to append them to a buffer.
 -- Assumes nothing.
 use mathlib.Core.Path.{_≡_}
-use Prim.Native.Nat.{ℕ, _+_, _*_, _≤_, min}
+use Prim.Native.Nat.{ℕ, zero, suc, _+_, _*_, _≤_, min}
+use mathlib.Core.Bool.{_&&_, cond}
 use mathlib.Core.List.{List, [], _∷_, _++_}
-use lib.ListN.{length, take}
+use mathlib.Core.Option.{Option, none, some}
+use lib.ListN.{length, getD, take}
+use Rattle.words.specs.Sets.{hasBit}
 use Rattle.io.specs.Digits.{digits, Fewest}
 
 -- The buffer of 65,536 bytes, which held n of them, now holds m: w is added to them, as far as it fits.
@@ -72,6 +75,31 @@ pub record SpansLine (start greedy posix : ℕ) (w : List ℕ) : Type 0 where
   pub greedily : Field greedy short
   pub longest : Field posix long
   pub text : w ≡ (103 ∷ 114 ∷ 101 ∷ 101 ∷ 100 ∷ 121 ∷ []) ++ (from ++ (short ++ ((32 ∷ 112 ∷ 111 ∷ 115 ∷ 105 ∷ 120 ∷ []) ++ (from ++ (long ++ (10 ∷ []))))))
+
+-- What each bracket of a pattern takes (request 2), in order: its start and end, or `-` if it is absent.
+pub data Pairs : List (Option (ℕ × ℕ)) → List ℕ → Type 0 where
+  no-pairs : Pairs [] []
+  absent : {l : List (Option (ℕ × ℕ))} {w : List ℕ} → Pairs l w → Pairs (l ++ (none ∷ [])) (w ++ (32 ∷ 45 ∷ []))
+  between : {l : List (Option (ℕ × ℕ))} {w u v : List ℕ} {a b : ℕ} → Pairs l w → Field a u → Field b v → Pairs (l ++ (some (a, b) ∷ [])) (w ++ (u ++ v))
+
+-- The pair of the bracket f + 1: place f and place 8 + f, if both bits are set.
+abbrev pub pairAt : ℕ → List ℕ → ℕ → Option (ℕ × ℕ)
+pairAt known places f = cond (hasBit known f && hasBit known (8 + f)) (some (getD places f 0, getD places (8 + f) 0)) none
+
+-- Of the first n brackets; there are at most eight.
+unfoldable pub pairsOf : ℕ → ℕ → List ℕ → List (Option (ℕ × ℕ))
+pairsOf zero known places = []
+pairsOf (suc n) known places = pairsOf n known places ++ (pairAt known places n ∷ [])
+
+-- "greedy 0 2 fields 1 2 -": the greedy span, and what its brackets take.
+pub record FieldsLine (start end : ℕ) (pairs : List (Option (ℕ × ℕ))) (w : List ℕ) : Type 0 where
+  pub from : List ℕ
+  pub to : List ℕ
+  pub rest : List ℕ
+  pub is : Field start from
+  pub ends : Field end to
+  pub are : Pairs pairs rest
+  pub text : w ≡ (103 ∷ 114 ∷ 101 ∷ 101 ∷ 100 ∷ 121 ∷ []) ++ (from ++ (to ++ ((32 ∷ 102 ∷ 105 ∷ 101 ∷ 108 ∷ 100 ∷ 115 ∷ []) ++ (rest ++ (10 ∷ [])))))
 
 -- The verdict unlike, without its newline, and after a space the spans of the witness.
 pub record ExplainedLine (count : ℕ) (witness : List ℕ) (start greedy posix : ℕ) (w : List ℕ) : Type 0 where

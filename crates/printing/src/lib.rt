@@ -1,12 +1,14 @@
 // The lines that the programs print, appended to a lent buffer: paper 01, "The programs". What does not fit is cut off; a program writes its buffer out in time.
 ghost use mathlib.Core.Path.{_≡_};
 ghost use mathlib.Core.List.{[], _∷_, _++_};
-ghost use Prim.Native.Nat.{_<_};
+ghost use mathlib.Core.Bool.{cond};
+ghost use mathlib.Core.Option.{some, none};
+ghost use Prim.Native.Nat.{_<_, min};
 ghost use lib.ListN.{take};
 ghost use Rattle.io.specs.Digits.{digits};
 ghost use Rattle.io.specs.Digits.{glyph as Digits·glyph};
-ghost use Rattle.printing.specs.Text.{Appended, Printed, room, hex, AlikeLine, UnlikeLine, RefusedLine, AcceptedLine, SpansLine, ExplainedLine, noneLine};
-ghost use Rattle.printing.specs.Puts.{Put, PutField, PutLine, Unended};
+ghost use Rattle.printing.specs.Text.{Appended, Printed, room, hex, AlikeLine, UnlikeLine, RefusedLine, AcceptedLine, SpansLine, FieldsLine, pairsOf, ExplainedLine, noneLine};
+ghost use Rattle.printing.specs.Puts.{Put, PutField, PutPair, PutPairs, PutLine, Unended};
 
 // How many bytes of the buffer are in use: all of them where n is above its size.
 fn used(out: &[u8; 65536], n: usize) -> usize
@@ -157,6 +159,59 @@ pub fn spans(out: &mut [u8; 65536], n: usize, start: usize, greedy: usize, posix
     ensures printed { λ r. ⌜ Printed 97 (SpansLine start greedy posix) (now (out .entry)) n (now (out .exit)) r ⌝ }
 {
     put_spans(out, n, start, greedy, posix)
+}
+
+// A space and '-', or the start and the end.
+fn put_bracket(out: &mut [u8; 65536], n: usize, here: bool, start: usize, end: usize) -> usize
+    ensures { λ r. ⌜ PutPair (cond here (some (start, end)) none) (now (out .entry)) n (now (out .exit)) r ⌝ }
+{
+    if here {
+        let from = put_field(out, n, start);
+        return put_field(out, from, end);
+    }
+    put(out, n, b" -")
+}
+
+// What the first `count` brackets take; there are at most eight.
+fn put_brackets(
+    out: &mut [u8; 65536],
+    n: usize,
+    count: usize,
+    known: u16,
+    places: &[usize; 16],
+) -> usize
+    ensures { λ r. ⌜ PutPairs (min count 8) known (now (places .entry)) (now (out .entry)) n (now (out .exit)) r ⌝ }
+{
+    let end = words::least(count, 8);
+    let bits = known as u64;
+    let mut m = used(out, n);
+    let mut f = 0;
+    while f < end {
+        let here = words::both(words::has(bits, f), words::has(bits, 8 + f));
+        m = put_bracket(out, m, here, places[f], places[8 + f]);
+        f += 1;
+    }
+    m
+}
+
+// 'greedy START END fields START END ..', where '-' stands for a bracket that takes nothing
+pub fn fields(
+    out: &mut [u8; 65536],
+    n: usize,
+    start: usize,
+    end: usize,
+    count: usize,
+    known: u16,
+    places: &[usize; 16],
+) -> usize
+    ensures printed { λ r. ⌜ Printed 392 (FieldsLine start end (pairsOf (min count 8) known (now (places .entry)))) (now (out .entry)) n (now (out .exit)) r ⌝ }
+{
+    let first = put(out, n, b"greedy");
+    let from = put_field(out, first, start);
+    let to = put_field(out, from, end);
+    let second = put(out, to, b" fields");
+    let rest = put_brackets(out, second, count, known, places);
+    put_byte(out, rest, b'\n')
 }
 
 // 'unlike COUNT WITNESS greedy START END posix START END': the verdict, and how the witness is cut

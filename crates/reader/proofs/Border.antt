@@ -1,23 +1,24 @@
 -- What the reader hands over is right: from what was found from the pattern's start.
 -- Assumes nothing.
 use mathlib.Core.Path.{_≡_, refl, sym, ap, _∙_, subst}
-use Prim.Native.Nat.{ℕ, _+_, _≤_, _<_}
+use Prim.Native.Nat.{ℕ, _+_, _-_, _≤_, _<_}
 use mathlib.Core.Bool.{Bool, true, false, not, cond}
 use mathlib.Core.List.{List, [], _∷_, map}
 use native.Mathlib.Omega.{arith}
-use lib.ListN.{length, take, drop, replicate, length-replicate, length-drop, length-map}
+use lib.ListN.{length, getD, take, drop, replicate, length-replicate, length-drop, length-map}
 use lib.Seq.{take-all}
 use lib.Dec.{T, ltb, ltb→lt, lt→ltb, nltb→le}
 use Rattle.theory.proofs.Tests.{T-true, not-true}
 use Rattle.theory.proofs.Numbering.{number-count}
 use Rattle.grammar.specs.Grammar.{alternation}
 use Rattle.grammar.specs.Limits.{heaviest, Reads}
+use Rattle.grammar.specs.Brackets.{brackets, openings, maxFields, ninth}
 use Rattle.grammar.specs.WriteOut.{shape, writeOut}
 use Rattle.grammar.specs.Before.{Before, start, text}
 use Rattle.grammar.specs.Refusals.{Fault, tooLong, wrong, tooHeavy, unopened}
 use Rattle.grammar.specs.Refusals as Due
 use Rattle.grammar.specs.Code.Codes.{tokenOf}
-use Rattle.grammar.proofs.Size.{weight-heaviest, leaves-64, nodes-2303, number-nodes}
+use Rattle.grammar.proofs.Size.{weight-heaviest, leaves-64, nodes-within, number-nodes}
 use Rattle.grammar.proofs.Tokens.{tokens-length}
 use Rattle.grammar.proofs.Unique.{afterAlternation, text-alternation}
 use Rattle.grammar.proofs.Place.{text-length, alternation-formed, opens-alternation}
@@ -31,18 +32,21 @@ use Rattle.reader.specs.declared.Part.the-variants.{Read, Refused}
 use Rattle.reader.specs.declared.Answer.{Answer}
 use Rattle.reader.specs.declared.Answer.the-variants.{Accepted}
 use Rattle.reader.specs.declared.Answer.the-variants as Answer
-use Rattle.reader.specs.Reading.{ReadRight, accepted}
-use Rattle.reader.specs.Steps.{Weighs, light, heavy, Alternated, AlternationRead, found-part, found-fault, answerBy}
+use Rattle.reader.specs.declared.Brackets.{Brackets}
+use Rattle.reader.specs.Reading.{noBrackets, bracketsDue, ReadRight, accepted}
+use Rattle.reader.specs.Steps.{andMore, Weighs, light, heavy, Alternated, AlternationRead, found-part, found-fault, answerBy}
+use Rattle.grammar.proofs.Openings.{openings-count}
+use Rattle.reader.proofs.Passed.{all-brackets}
 use Rattle.reader.proofs.Begins.{byte-drop, drop-all}
 
-pub read-long : (p : List ℕ) (x : Pattern) → 255 < length p → x ≡ blank → ReadRight p (record { answer = Answer.Refused 1 255; pattern = x })
-read-long p x h e = record { answer = Due.refused 1 255; right = tooLong h refl refl; means = refl; beside = e }
+pub read-long : (p : List ℕ) (x : Pattern) → 255 < length p → x ≡ blank → (g : Brackets) → g ≡ noBrackets → ReadRight p (record { answer = Answer.Refused 1 255; pattern = x; brackets = g })
+read-long p x h e g z = record { answer = Due.refused 1 255; right = tooLong h refl refl; means = refl; beside = e; counted = z }
 
 -- The array before anything is written.
-pub holds-none : HoldsCodes (replicate 2303 0) 0 []
-holds-none = record { size = length-replicate {A = ℕ} 2303 0; used = refl; same = refl }
+pub holds-none : HoldsCodes (replicate 2815 0) 0 []
+holds-none = record { size = length-replicate {A = ℕ} 2815 0; used = refl; same = refl }
 
-module _ {p a b : List ℕ} {n m e c : ℕ} (short : length p ≤ 255) (t : Alternated p 0 0 e c a n b m) where
+module _ {p a b : List ℕ} {n m e c : ℕ} (short : length p ≤ 255) {g : Brackets} (t : Alternated p 0 0 e c a n b m noBrackets g) where
   -- It ends before a `)` that has no `(`,
   pub found-close : e < length p → Fault p 2 e
   found-close h =
@@ -78,38 +82,52 @@ module _ {p a b : List ℕ} {n m e c : ℕ} (short : length p ≤ 255) (t : Alte
     found-tree h = record { text = whole-text; formed = t .formed; short = short; shallow = omega (arith, t .shallow); light = not-heavy (t .load) h }
 
     -- Its codes all fit, so the arrays made of them are the written-out pattern.
-    pub found-written : c ≤ 64 → a ≡ replicate 2303 0 → n ≡ 0 → (x : Pattern) → Finished p (take m b) x → Arrays.HoldsPattern x (writeOut (t .t))
+    pub found-written : c ≤ 64 → a ≡ replicate 2815 0 → n ≡ 0 → (x : Pattern) → Finished p (take m b) x → Arrays.HoldsPattern x (writeOut (t .t))
     unfolding writeOut
     found-written h z y x f =
         let r = found-tree h in
         let holds : HoldsCodes b m (t .wrote .codes) = t .wrote .holds [] (rw (z, y) holds-none) in
-        let size : length (t .wrote .codes) ≤ 2303 =
-        omega (arith, sym (length-map (t .wrote .codes) (tokenOf p)) ∙ ap length (t .wrote .are) ∙ tokens-length (shape (t .t)), number-nodes 0 (shape (t .t)), nodes-2303 p (t .t) r) in
-        let codes : take m b ≡ t .wrote .codes = holds .same ∙ take-all 2303 (t .wrote .codes) size in
-        f (shape (t .t)) (ap (map (tokenOf p)) codes ∙ t .wrote .are) (omega (arith, number-count 0 (shape (t .t)), leaves-64 p (t .t) r))
+        let size : length (t .wrote .codes) ≤ 2815 =
+        omega (arith, sym (length-map (t .wrote .codes) (tokenOf p)) ∙ ap length (t .wrote .are) ∙ tokens-length (shape (t .t) 0), number-nodes 0 (shape (t .t) 0), nodes-within p (t .t) r) in
+        let codes : take m b ≡ t .wrote .codes = holds .same ∙ take-all 2815 (t .wrote .codes) size in
+        f (shape (t .t) 0) (ap (map (tokenOf p)) codes ∙ t .wrote .are) (omega (arith, number-count 0 (shape (t .t) 0), leaves-64 p (t .t) r))
+
+    -- Its brackets are all that were passed.
+    pub found-brackets : c ≤ 64 → g ≡ bracketsDue (Due.accepted (t .t))
+    unfolding ninth
+    found-brackets h =
+        let d : drop e p ≡ [] = drop-all p e at-end in
+        let n : length p ≡ length (alternation (t .t) []) = ap length (sym whole-text) in
+        t .passed .are ∙ ap (λ s. andMore (length p) noBrackets (openings (t .t) s)) d ∙ all-brackets (length p) (brackets (t .t)) (openings (t .t) []) (openings-count (t .t) [])
+        ∙ ap (λ k. record { count = brackets (t .t); ninth = cond (ltb maxFields (brackets (t .t))) (k - length (getD (openings (t .t) []) maxFields [])) 0 }) n
 
 -- The answer is right, with the arrays that were made for an accepted pattern, and the empty ones for any other.
-module _ {p : List ℕ} (short : length p ≤ 255) (x : Pattern) where
-  refuse : (r : Answer) (n q : ℕ) → r ≡ Answer.Refused n q → Fault p n q → ((k j : ℕ) → r ≡ Answer.Refused k j → x ≡ blank) → ReadRight p (record { answer = r; pattern = x })
-  refuse r n q e f h = let z = h n q e in rw e (record { answer = Due.refused n q; right = f; means = refl; beside = z })
+module _ {p : List ℕ} (short : length p ≤ 255) (x : Pattern) (k : Brackets) where
+  refuse : (r : Answer) (n q : ℕ) → r ≡ Answer.Refused n q → Fault p n q → ((k j : ℕ) → r ≡ Answer.Refused k j → x ≡ blank) → ((i j : ℕ) → r ≡ Answer.Refused i j → k ≡ noBrackets) → ReadRight p (record { answer = r; pattern = x; brackets = k })
+  refuse r n q e f h c = let z = h n q e in let y = c n q e in rw e (record { answer = Due.refused n q; right = f; means = refl; beside = z; counted = y })
 
-  accept : {b : List ℕ} {m e c : ℕ} (r : Answer) → r ≡ Accepted → (t : Alternated p 0 0 e c (replicate 2303 0) 0 b m) → length p ≤ e → c ≤ 64 → (r ≡ Accepted → Finished p (take m b) x) → ReadRight p (record { answer = r; pattern = x })
-  accept r q t l h f =
+  accept : {b : List ℕ} {m e c : ℕ} {g : Brackets} (r : Answer) → r ≡ Accepted → (t : Alternated p 0 0 e c (replicate 2815 0) 0 b m noBrackets g) → length p ≤ e → c ≤ 64 → (r ≡ Accepted → Finished p (take m b) x) → (r ≡ Accepted → k ≡ g)
+      → ReadRight p (record { answer = r; pattern = x; brackets = k })
+  accept r q t l h f same =
       let w = found-written short t l h refl refl x (f q) in
-      rw q (record { answer = Due.accepted (t .t); right = found-tree short t l h; means = ap accepted (w .decodes); beside = subst (Arrays.HoldsPattern x) (sym (w .decodes)) w })
+      rw q (record { answer = Due.accepted (t .t); right = found-tree short t l h; means = ap accepted (w .decodes); beside = subst (Arrays.HoldsPattern x) (sym (w .decodes)) w; counted = same q ∙ found-brackets short t l h })
 
-  pub read-right : {b : List ℕ} {m : ℕ} {part : Part} (r : Answer) → AlternationRead p 0 0 (replicate 2303 0) 0 b m part → r ≡ answerBy (length p) part → (r ≡ Accepted → Finished p (take m b) x) → ((n q : ℕ) → r ≡ Answer.Refused n q → x ≡ blank)
-      → ReadRight p (record { answer = r; pattern = x })
-  read-right r (found-fault {k = k} {q = q} f) e g h = refuse r k q e f h
-  read-right r (found-part {e = end} {c = c} t) e g h = go (ltb end (length p)) (ltb→lt end (length p)) (λ n. nltb→le end (length p) n) e
+  pub read-right : {b : List ℕ} {m : ℕ} {part : Part} {g : Brackets} (r : Answer) → AlternationRead p 0 0 (replicate 2815 0) 0 b m noBrackets g part → r ≡ answerBy (length p) part → (r ≡ Accepted → Finished p (take m b) x) → (r ≡ Accepted → k ≡ g)
+      → ((n q : ℕ) → r ≡ Answer.Refused n q → x ≡ blank) → ((n q : ℕ) → r ≡ Answer.Refused n q → k ≡ noBrackets) → ReadRight p (record { answer = r; pattern = x; brackets = k })
+  read-right r (found-fault {k = k} {q = q} f) e g same h none = refuse r k q e f h none
+  read-right r (found-part {e = end} {c = c} t) e g same h none = go (ltb end (length p)) (ltb→lt end (length p)) (λ n. nltb→le end (length p) n) e
     where
-      weigh : (d : Bool) → (T d → 64 < c) → (T (not d) → c ≤ 64) → length p ≤ end → r ≡ cond d (Answer.Refused 8 end) Accepted → ReadRight p (record { answer = r; pattern = x })
-      weigh true a b l e = refuse r 8 end e (found-heavy short t l (a tt)) h
-      weigh false a b l e = accept r e t l (b tt) g
+      weigh : (d : Bool) → (T d → 64 < c) → (T (not d) → c ≤ 64) → length p ≤ end → r ≡ cond d (Answer.Refused 8 end) Accepted → ReadRight p (record { answer = r; pattern = x; brackets = k })
+      weigh true a b l e = refuse r 8 end e (found-heavy short t l (a tt)) h none
+      weigh false a b l e = accept r e t l (b tt) g same
 
-      go : (d : Bool) → (T d → end < length p) → (T (not d) → length p ≤ end) → r ≡ cond d (Answer.Refused 2 end) (cond (ltb 64 c) (Answer.Refused 8 end) Accepted) → ReadRight p (record { answer = r; pattern = x })
-      go true a b e = refuse r 2 end e (found-close short t (a tt)) h
+      go : (d : Bool) → (T d → end < length p) → (T (not d) → length p ≤ end) → r ≡ cond d (Answer.Refused 2 end) (cond (ltb 64 c) (Answer.Refused 8 end) Accepted) → ReadRight p (record { answer = r; pattern = x; brackets = k })
+      go true a b e = refuse r 2 end e (found-close short t (a tt)) h none
       go false a b e = weigh (ltb 64 c) (ltb→lt 64 c) (λ n. nltb→le 64 c n) (b tt) e
+
+-- No answer is both.
+pub not-both : {A : Type 0} {k q : ℕ} {r : Answer} → r ≡ Answer.Refused k q → r ≡ Accepted → A
+not-both e f = let z : _≡_ {A = ℕ} 0 1 = cc in absurd (omega arith)
 
 -- The answer by what was found.
 pub answer-refused : {k q : ℕ} (n : ℕ) (part : Part) → part ≡ Refused k q → Answer.Refused k q ≡ answerBy n part

@@ -6,25 +6,30 @@ use Prim.Native.Nat.{ℕ, suc, _+_, _-_, _≤_, _<_, max, min}
 use mathlib.Core.Bool.{true, false}
 use mathlib.Core.List.{List, [], _∷_, _++_, map, map-append, append-assoc, append-nil}
 use native.Mathlib.Omega.{arith}
+use native.Mathlib.Decide.{decLt}
 use lib.ListN.{length, getD, drop}
 use Rattle.theory.specs.Pattern.{Re}
-use Rattle.grammar.specs.Grammar.{plain, escaped, Repeat, once, many, more, maybe, exactly, atLeast, between, Digits, digitsValue, last, or, Sequence, nothing, part, Atom, byte, dot, class, group, repeatText, atom, WfAtom, WfRepeat}
+use Rattle.grammar.specs.Grammar.{plain, escaped, Repeat, once, many, more, maybe, exactly, atLeast, between, Digits, digitsValue, last, or, Sequence, nothing, part, Atom, byte, dot, class, group, repeatText, alternation, sequence, atom, WfAtom, WfRepeat}
 use Rattle.grammar.specs.Limits.{depthAtom, repeated, weight, weights, weightAtom, heaviest, heaviestWithin, heaviestAtom}
-use Rattle.grammar.specs.WriteOut.{chain, optional, shape, parts, shapeAtom, repeatOf}
+use Rattle.grammar.specs.Brackets.{bracketsWithin, bracketsAtom, openings, openingsAtom, maxFields}
+use Rattle.grammar.specs.WriteOut.{chain, optional, bracketed, shape, parts, shapeAtom, repeatOf}
 use Rattle.grammar.specs.Before.{isOnce}
 use Rattle.grammar.specs.Refusals.{Fault}
 use Rattle.grammar.specs.Code.Reader.{found, readClass, readCount}
 use Rattle.grammar.specs.Code.Tokens.{Token, nil, both, tokens}
 use Rattle.grammar.specs.Code.Tokens
-use Rattle.grammar.specs.Code.Codes.{tokenOf, exactlyCodes, atLeastCodes, betweenCodes}
+use Rattle.grammar.specs.Code.Codes.{firstField, firstLeaf, tokenOf, exactlyCodes, atLeastCodes, betweenCodes}
 use Rattle.grammar.proofs.Pieces.{Sound, ClassIs, class-sound, CountIs, count-sound}
-use Rattle.grammar.proofs.Codes.{plain-code, escaped-code, dot-code, class-code, star-codes, exactly-codes, atLeast-codes, between-codes}
+use Rattle.grammar.proofs.Codes.{plain-code, escaped-code, dot-code, class-code, field-codes, unmarked-codes, star-codes, exactly-codes, atLeast-codes, between-codes}
+use Rattle.grammar.proofs.Openings.{within-count, atom-count}
 use Rattle.tokens.specs.Held.{Added, Rewritten}
 use Rattle.scanner.specs.Scanned.{Onward}
 use Rattle.reader.specs.declared.Part.{Part}
 use Rattle.reader.specs.declared.Part.the-variants.{Read, Refused}
-use Rattle.reader.specs.Steps.{isSpecial, NoRepeat, Begun, Weighs, light, loadOf, tokensOf, Wrote, Rewrote, PartRead, found-part, found-fault, Alternated, Sequenced, Atomic, Repeated}
+use Rattle.reader.specs.declared.Brackets.{Brackets}
+use Rattle.reader.specs.Steps.{isSpecial, oneMore, Passed, AddedIf, NoRepeat, Begun, Weighs, light, loadOf, tokensOf, Wrote, Rewrote, PartRead, found-part, found-fault, Alternated, Sequenced, Atomic, Repeated}
 use Rattle.reader.proofs.Weights.{weighs-plus, weighs-again, weighs-times, one-load, or-light, or-heavy, repeated-pos, atom-pos, atom-heaviest, load-none, load-some}
+use Rattle.reader.proofs.Passed.{passed-none, passed-then, passed-count, passed-group}
 use Rattle.reader.proofs.Begins.{at-drop, byte-drop, drop-all, next-here, depth-max, ordinary-of, no-repeat}
 
 -- Writing.
@@ -46,6 +51,11 @@ module _ {p : List ℕ} where
   -- A part that was written and then became another.
   pub wrote-rewrote : {a b c : List ℕ} {n m k : ℕ} {y z : Re} → Wrote p a n b m (tokens y) → Rewrote p b m n c k y z → Wrote p a n c k (tokens z)
   wrote-rewrote x r = record { codes = r .codes (x .codes); are = r .are (x .codes) (x .are); holds = λ l h. r .holds l (x .codes) (x .holds l h) (h .used) }
+
+-- An atom that is no group, with the brackets that are there.
+pub single : {p : List ℕ} {G : Brackets → ℕ → ℕ → Type 0} {r : Part} (g : Brackets) → PartRead p (λ e c. (h : Brackets) → G h e c) r → PartRead p (G g) r
+single g (found-part f) = found-part (f g)
+single g (found-fault x) = found-fault x
 
 -- A refusal is passed on, and an answer that is known.
 module _ {p : List ℕ} {F : ℕ → ℕ → Type 0} where
@@ -123,27 +133,27 @@ module _ {p : List ℕ} {at v n from : ℕ} {a : List ℕ} where
   other-here h x y z w = none-here (omega arith) (rw (at-drop p at h) (no-repeat (getD p at 0) x y z w))
 
 -- Sequences. A part and the parts after it.
-joined : {p : List ℕ} {u n₂ n₃ m : ℕ} {f g₂ g₃ g : List ℕ} {n : ℕ} (q : Sequence) (z : Re) → Wrote p f n g₂ n₂ (tokens z) → Wrote p g₂ n₂ g₃ n₃ (tokensOf (parts q)) → Weighs u (weights q) (heaviestWithin q)
-    → ((u ≡ 0 → ⊥) → Added g₃ n₃ (1 ∷ []) g m) → (u ≡ 0 → (g ≡ g₃) × (m ≡ n₃)) → Wrote p f n g m (tokensOf (z ∷ parts q))
+joined : {p : List ℕ} {u n₂ n₃ m : ℕ} {f g₂ g₃ g : List ℕ} {n : ℕ} (q : Sequence) (k : ℕ) (z : Re) → Wrote p f n g₂ n₂ (tokens z) → Wrote p g₂ n₂ g₃ n₃ (tokensOf (parts q k)) → Weighs u (weights q) (heaviestWithin q)
+    → ((u ≡ 0 → ⊥) → Added g₃ n₃ (1 ∷ []) g m) → (u ≡ 0 → (g ≡ g₃) × (m ≡ n₃)) → Wrote p f n g m (tokensOf (z ∷ parts q k))
 unfolding weight heaviest shape tokensOf chain tokens
-joined nothing z v w l go stop =
+joined nothing k z v w l go stop =
     let e = stop (load-none l (omega arith)) in
     rw (e .0, e .1) (rw append-nil at (wrote-then v w))
-joined (part a r q) z v w l go stop = wrote-then v (wrote-then w (wrote-added 1 (both ∷ []) refl (go (load-some l (omega (arith, repeated-pos r (weightAtom a) (atom-pos a)))))))
+joined (part a r q) k z v w l go stop = wrote-then v (wrote-then w (wrote-added 1 (both ∷ []) refl (go (load-some l (omega (arith, repeated-pos r (weightAtom a) (atom-pos a)))))))
 
 -- A sequence as a part: an empty one is a part of its own.
-whole : {p : List ℕ} {u n n₁ m : ℕ} {f g₁ g : List ℕ} (q : Sequence) → Wrote p f n g₁ n₁ (tokensOf (parts q)) → Weighs u (weights q) (heaviestWithin q)
-    → (u ≡ 0 → Added g₁ n₁ (0 ∷ []) g m) → ((u ≡ 0 → ⊥) → (g ≡ g₁) × (m ≡ n₁)) → Wrote p f n g m (tokens (chain (parts q)))
+whole : {p : List ℕ} {u n n₁ m : ℕ} {f g₁ g : List ℕ} (q : Sequence) (k : ℕ) → Wrote p f n g₁ n₁ (tokensOf (parts q k)) → Weighs u (weights q) (heaviestWithin q)
+    → (u ≡ 0 → Added g₁ n₁ (0 ∷ []) g m) → ((u ≡ 0 → ⊥) → (g ≡ g₁) × (m ≡ n₁)) → Wrote p f n g m (tokens (chain (parts q k)))
 unfolding weight heaviest shape tokensOf chain tokens
-whole nothing w l go stop = wrote-then w (wrote-added 0 (nil ∷ []) refl (go (load-none l (omega arith))))
-whole (part a r q) w l go stop =
+whole nothing k w l go stop = wrote-then w (wrote-added 0 (nil ∷ []) refl (go (load-none l (omega arith))))
+whole (part a r q) k w l go stop =
     let e = stop (load-some l (omega (arith, repeated-pos r (weightAtom a) (atom-pos a)))) in
     rw (e .0, e .1) w
 
 module _ {p : List ℕ} {at d : ℕ} where
-  pub sequence-stop : {f : List ℕ} {n : ℕ} → Begun p at d → (at < length p → getD p at 0 ≢ 124 → getD p at 0 ≡ 41) → Sequenced p at d at 0 f n f n
+  pub sequence-stop : {f : List ℕ} {n : ℕ} {u : Brackets} → Begun p at d → (at < length p → getD p at 0 ≢ 124 → getD p at 0 ≡ 41) → Sequenced p at d at 0 f n f n u u
   unfolding weight heaviest shape tokensOf
-  sequence-stop {f} {n} b h =
+  sequence-stop {f} {n} {u} b h =
       record {
         q = nothing;
         formed = tt;
@@ -154,12 +164,15 @@ module _ {p : List ℕ} {at d : ℕ} where
         end = h;
         wrote = wrote-none f n;
         load = light refl (omega arith) (omega arith);
+        passed = passed-none u (omega arith);
       }
 
-  pub sequence-part : {e c k v l u n n₁ n₂ n₃ m : ℕ} {f g₁ g₂ g₃ g : List ℕ} (r : ℕ) → Atomic p at d e c f n g₁ n₁ → Repeated p e c k v g₁ n₁ n g₂ n₂ → Sequenced p k d l u g₂ n₂ g₃ n₃
-      → ((u ≡ 0 → ⊥) → Added g₃ n₃ (1 ∷ []) g m) → (u ≡ 0 → (g ≡ g₃) × (m ≡ n₃)) → r ≡ min 65 (v + u) → Sequenced p at d l r f n g m
+  pub sequence-part : {e c k v l u n n₁ n₂ n₃ m : ℕ} {f g₁ g₂ g₃ g : List ℕ} {i j o : Brackets} (r : ℕ) → Atomic p at d e c f n g₁ n₁ i j → Repeated p e c k v g₁ n₁ n g₂ n₂ → Sequenced p k d l u g₂ n₂ g₃ n₃ j o
+      → ((u ≡ 0 → ⊥) → Added g₃ n₃ (1 ∷ []) g m) → (u ≡ 0 → (g ≡ g₃) × (m ≡ n₃)) → r ≡ min 65 (v + u) → Sequenced p at d l r f n g m i o
   unfolding weight heaviest shape
-  sequence-part {n = n} {n₂ = n₂} {f = f} {g₂ = g₂} r a x q go stop e =
+  sequence-part {e} {l = l} {n = n} {n₂ = n₂} {n₃ = n₃} {f = f} {g₂ = g₂} {g₃ = g₃} {i = i} {j = j} r a x q go stop z =
+      let after : repeatText (x .x) (sequence (q .q) (drop l p)) ≡ drop e p = rw (q .text) (x .text) in
+      let k : j .count ≡ i .count + bracketsAtom (a .x) = passed-count (a .passed) ∙ ap (λ n. i .count + n) (atom-count (a .x) (drop e p)) in
       record {
         q = part (a .x) (x .x) (q .q);
         formed = (a .formed, x .formed, q .formed);
@@ -168,17 +181,20 @@ module _ {p : List ℕ} {at d : ℕ} where
         forward = omega (arith, a .forward, x .forward, q .forward);
         inside = q .inside;
         end = q .end;
-        wrote = joined (q .q) (repeatOf (x .x) (shapeAtom (a .x))) (wrote-rewrote (a .wrote) (x .wrote (shapeAtom (a .x)))) (q .wrote) (q .load) go stop;
+        wrote =
+            joined (q .q) (i .count + bracketsAtom (a .x)) (repeatOf (x .x) (shapeAtom (a .x) (i .count)))
+            (wrote-rewrote (a .wrote) (x .wrote (shapeAtom (a .x) (i .count)))) (subst (λ n. Wrote p g₂ n₂ g₃ n₃ (tokensOf (parts (q .q) n))) k (q .wrote)) (q .load) go stop;
         load =
-            weighs-plus r (weights (part (a .x) (x .x) (q .q))) (heaviestWithin (part (a .x) (x .x) (q .q))) e refl
+            weighs-plus r (weights (part (a .x) (x .x) (q .q))) (heaviestWithin (part (a .x) (x .x) (q .q))) z refl
             (x .load (weightAtom (a .x)) (heaviestAtom (a .x)) (atom-heaviest (a .x)) (a .load)) (q .load) (λ f g h. omega arith) (λ f. omega arith);
+        passed = rw after (passed-then (a .passed) (x .forward) (q .passed));
       }
 
   -- Alternations.
-  pub alternation-last : {e c n n₁ m : ℕ} {f g₁ g : List ℕ} (r : ℕ) → Sequenced p at d e c f n g₁ n₁ → (c ≡ 0 → Added g₁ n₁ (0 ∷ []) g m) → ((c ≡ 0 → ⊥) → (g ≡ g₁) × (m ≡ n₁)) → r ≡ max 1 c
-      → (e < length p → getD p e 0 ≢ 124) → Alternated p at d e r f n g m
+  pub alternation-last : {e c n n₁ m : ℕ} {f g₁ g : List ℕ} {i j : Brackets} (r : ℕ) → Sequenced p at d e c f n g₁ n₁ i j → (c ≡ 0 → Added g₁ n₁ (0 ∷ []) g m) → ((c ≡ 0 → ⊥) → (g ≡ g₁) × (m ≡ n₁)) → r ≡ max 1 c
+      → (e < length p → getD p e 0 ≢ 124) → Alternated p at d e r f n g m i j
   unfolding weight heaviest shape
-  alternation-last r q go stop e h =
+  alternation-last {i = i} r q go stop e h =
       record {
         t = last (q .q);
         formed = q .formed;
@@ -187,14 +203,18 @@ module _ {p : List ℕ} {at d : ℕ} where
         forward = q .forward;
         inside = q .inside;
         end = λ l. q .end l (h l);
-        wrote = whole (q .q) (q .wrote) (q .load) go stop;
+        wrote = whole (q .q) (i .count) (q .wrote) (q .load) go stop;
         load = one-load r e (q .load);
+        passed = q .passed;
       }
 
-  pub alternation-or : {e c l v n n₁ n₂ n₃ m : ℕ} {f g₁ g₂ g₃ g : List ℕ} (w r : ℕ) → Sequenced p at d e c f n g₁ n₁ → (c ≡ 0 → Added g₁ n₁ (0 ∷ []) g₂ n₂) → ((c ≡ 0 → ⊥) → (g₂ ≡ g₁) × (n₂ ≡ n₁)) → w ≡ max 1 c
-      → e < length p → getD p e 0 ≡ 124 → Alternated p (e + 1) d l v g₂ n₂ g₃ n₃ → Added g₃ n₃ (2 ∷ []) g m → r ≡ min 65 (w + v) → Alternated p at d l r f n g m
+  pub alternation-or : {e c l v n n₁ n₂ n₃ m : ℕ} {f g₁ g₂ g₃ g : List ℕ} {i j k : Brackets} (w r : ℕ) → Sequenced p at d e c f n g₁ n₁ i j → (c ≡ 0 → Added g₁ n₁ (0 ∷ []) g₂ n₂) → ((c ≡ 0 → ⊥) → (g₂ ≡ g₁) × (n₂ ≡ n₁)) → w ≡ max 1 c
+      → e < length p → getD p e 0 ≡ 124 → Alternated p (e + 1) d l v g₂ n₂ g₃ n₃ j k → Added g₃ n₃ (2 ∷ []) g m → r ≡ min 65 (w + v) → Alternated p at d l r f n g m i k
   unfolding weight heaviest shape tokens
-  alternation-or {e} w r q go stop x h y t o z =
+  alternation-or {e} {l = l} {n₂ = n₂} {n₃ = n₃} {g₂ = g₂} {g₃ = g₃} {i = i} {j = j} w r q go stop x h y t o z =
+      let after : 124 ∷ alternation (t .t) (drop l p) ≡ drop e p = ap (λ s. 124 ∷ s) (t .text) ∙ sym (byte-drop p e 124 h y) in
+      let k : j .count ≡ i .count + bracketsWithin (q .q) = passed-count (q .passed) ∙ ap (λ n. i .count + n) (within-count (q .q) (drop e p)) in
+      let rest : Wrote p g₂ n₂ g₃ n₃ (tokens (shape (t .t) (i .count + bracketsWithin (q .q)))) = subst (λ n. Wrote p g₂ n₂ g₃ n₃ (tokens (shape (t .t) n))) k (t .wrote) in
       record {
         t = or (q .q) (t .t);
         formed = (q .formed, t .formed);
@@ -203,7 +223,8 @@ module _ {p : List ℕ} {at d : ℕ} where
         forward = omega (arith, q .forward, t .forward);
         inside = t .inside;
         end = t .end;
-        wrote = wrote-then (whole (q .q) (q .wrote) (q .load) go stop) (wrote-then (t .wrote) (wrote-added 2 (Tokens.or ∷ []) refl o));
+        wrote = wrote-then (whole (q .q) (i .count) (q .wrote) (q .load) go stop) (wrote-then rest (wrote-added 2 (Tokens.or ∷ []) refl o));
+        passed = rw after (passed-then (q .passed) (omega arith) (t .passed));
         load =
             weighs-plus r (weight (or (q .q) (t .t))) (heaviest (or (q .q) (t .t))) z refl (one-load w x (q .load)) (t .load)
             (or-light (max 1 (weights (q .q))) (weight (t .t)) (heaviestWithin (q .q)) (heaviest (t .t))) (or-heavy (max 1 (weights (q .q))) (weight (t .t)) (heaviestWithin (q .q)) (heaviest (t .t)));
@@ -212,10 +233,10 @@ module _ {p : List ℕ} {at d : ℕ} where
 -- Atoms.
 module _ {p : List ℕ} {at d : ℕ} (b : Begun p at d) (i : at < length p) {n m : ℕ} {f g : List ℕ} where
   -- A leaf, whose code is that of its place.
-  module _ (u : Added f n ((4 + at) ∷ []) g m) where
-    leaf-here : (x : Atom) (e : ℕ) → map (tokenOf p) (suc (suc (suc (suc at))) ∷ []) ≡ tokens (shapeAtom x) → WfAtom x → depthAtom x ≡ 0 → weightAtom x ≡ 1 → heaviestAtom x ≡ 1 → atom x (drop e p) ≡ drop at p → at < e → e ≤ length p
-        → Atomic p at d e 1 f n g m
-    leaf-here x e v w k y z t l r =
+  module _ (u : Added f n ((firstLeaf + at) ∷ []) g m) (j : Brackets) where
+    leaf-here : (x : Atom) (e : ℕ) → map (tokenOf p) ((firstLeaf + at) ∷ []) ≡ tokens (shapeAtom x (j .count)) → openingsAtom x (drop e p) ≡ [] → WfAtom x → depthAtom x ≡ 0 → weightAtom x ≡ 1 → heaviestAtom x ≡ 1
+        → atom x (drop e p) ≡ drop at p → at < e → e ≤ length p → Atomic p at d e 1 f n g m j j
+    leaf-here x e v o w k y z t l r =
         record {
           x = x;
           formed = w;
@@ -223,44 +244,63 @@ module _ {p : List ℕ} {at d : ℕ} (b : Begun p at d) (i : at < length p) {n m
           text = t;
           forward = l;
           inside = r;
-          wrote = wrote-added (suc (suc (suc (suc at)))) (tokens (shapeAtom x)) v (let e : 4 + at ≡ suc (suc (suc (suc at))) = omega arith in subst (λ c. Added f n (c ∷ []) g m) e u);
+          wrote = wrote-added (firstLeaf + at) (tokens (shapeAtom x (j .count))) v u;
           load = light (omega arith) (omega arith) (omega arith);
+          passed = rw o (passed-none j (omega arith));
         }
 
-    pub plain-here : false ≡ isSpecial (getD p at 0) → Atomic p at d (at + 1) 1 f n g m
+    pub plain-here : false ≡ isSpecial (getD p at 0) → Atomic p at d (at + 1) 1 f n g m j j
     unfolding weight heaviest
     plain-here e =
-        leaf-here (byte (plain (getD p at 0))) (at + 1) (plain-code p at (drop (at + 1) p) (getD p at 0) (at-drop p at i) (ordinary-of (getD p at 0) e)) (ordinary-of (getD p at 0) e) refl refl refl (sym (at-drop p at i)) (omega arith) (omega arith)
+        leaf-here (byte (plain (getD p at 0))) (at + 1) (plain-code p at (j .count) (drop (at + 1) p) (getD p at 0) (at-drop p at i) (ordinary-of (getD p at 0) e)) refl (ordinary-of (getD p at 0) e) refl refl refl (sym (at-drop p at i)) (omega arith) (omega arith)
 
-    pub dot-here : getD p at 0 ≡ 46 → Atomic p at d (at + 1) 1 f n g m
+    pub dot-here : getD p at 0 ≡ 46 → Atomic p at d (at + 1) 1 f n g m j j
     unfolding weight heaviest
-    dot-here e = leaf-here dot (at + 1) (dot-code p at (drop (at + 1) p) (byte-drop p at 46 i e)) tt refl refl refl (sym (byte-drop p at 46 i e)) (omega arith) (omega arith)
+    dot-here e = leaf-here dot (at + 1) (dot-code p at (j .count) (drop (at + 1) p) (byte-drop p at 46 i e)) refl tt refl refl refl (sym (byte-drop p at 46 i e)) (omega arith) (omega arith)
 
-    pub escaped-here : getD p at 0 ≡ 92 → at + 1 ≢ length p → true ≡ isSpecial (getD p (at + 1) 0) → Atomic p at d (at + 2) 1 f n g m
+    pub escaped-here : getD p at 0 ≡ 92 → at + 1 ≢ length p → true ≡ isSpecial (getD p (at + 1) 0) → Atomic p at d (at + 2) 1 f n g m j j
     unfolding weight heaviest
     escaped-here e k s =
         let h : at + 1 < length p = omega arith in
         let t : drop at p ≡ 92 ∷ getD p (at + 1) 0 ∷ drop (at + 2) p = byte-drop p at 92 i e ∙ ap (λ l. 92 ∷ l) (next-here b i h) in
-        leaf-here (byte (escaped (getD p (at + 1) 0))) (at + 2) (escaped-code p at (drop (at + 2) p) (getD p (at + 1) 0) t) (sym s) refl refl refl (sym t) (omega arith) (omega arith)
+        leaf-here (byte (escaped (getD p (at + 1) 0))) (at + 2) (escaped-code p at (j .count) (drop (at + 2) p) (getD p (at + 1) 0) t) refl (sym s) refl refl refl (sym t) (omega arith) (omega arith)
 
-    pub class-here : {e : ℕ} (x : Atom) → getD p at 0 ≡ 91 → readClass (drop (at + 1) p) ≡ found x (drop e p) → Onward p (at + 1) e → Atomic p at d e 1 f n g m
+    pub class-here : {e : ℕ} (x : Atom) → getD p at 0 ≡ 91 → readClass (drop (at + 1) p) ≡ found x (drop e p) → Onward p (at + 1) e → Atomic p at d e 1 f n g m j j
     unfolding weight heaviest
     class-here {e} a h r o =
         let (c, x, l, s, w, v, t) = subst (Sound (ClassIs (91 ∷ drop (at + 1) p))) r (class-sound (drop (at + 1) p)) in
-        leaf-here (class c x l) e (class-code p at (drop (at + 1) p) c x l (drop e p) (byte-drop p at 91 i h) (r ∙ ap (λ y. found y (drop e p)) s)) (w, v) refl refl refl (t ∙ sym (byte-drop p at 91 i h)) (omega (arith, o .forward)) (o .inside)
+        leaf-here (class c x l) e (class-code p at (j .count) (drop (at + 1) p) c x l (drop e p) (byte-drop p at 91 i h) (r ∙ ap (λ y. found y (drop e p)) s)) refl (w, v) refl refl refl (t ∙ sym (byte-drop p at 91 i h)) (omega (arith, o .forward)) (o .inside)
 
-  pub group-here : {e c : ℕ} → getD p at 0 ≡ 40 → Alternated p (at + 1) (d + 1) e c f n g m → e ≢ length p → Atomic p at d (e + 1) c f n g m
+  -- A group, whose bracket is a field if it is one of the first eight.
+  pub group-here : {e c k : ℕ} {h : List ℕ} {u w v : Brackets} → getD p at 0 ≡ 40 → w ≡ oneMore u at → Alternated p (at + 1) (d + 1) e c f n h k w v → e ≢ length p → AddedIf (u .count < maxFields) h k (firstField + u .count) g m
+      → Atomic p at d (e + 1) c f n g m u v
   unfolding weight heaviest shape
-  group-here {e} x t k =
-      let h : e < length p = omega (arith, t .inside) in
-      let g = byte-drop p e 41 h (t .end h) in
+  group-here {e} {c} {k} {h} {u} {w} {v} x is t′ o z =
+      let l : e < length p = omega (arith, t .inside) in
+      let y = byte-drop p e 41 l (t .end l) in
+      let whole-text : atom (group (t .t)) (drop (e + 1) p) ≡ drop at p = rw (← y, t .text) (sym (byte-drop p at 40 i x)) in
       record {
         x = group (t .t);
         formed = t .formed;
         shallow = omega (arith, t .shallow);
-        text = rw (← g, t .text) (sym (byte-drop p at 40 i x));
+        text = whole-text;
         forward = omega (arith, t .forward);
         inside = omega arith;
-        wrote = t .wrote;
+        wrote = marked (decLt (u .count) maxFields);
         load = t .load;
+        passed = passed-group (atom (group (t .t)) (drop (e + 1) p)) (omega arith) whole-text (subst (λ s. Passed p (at + 1) e (openings (t .t) s) (oneMore u at) v) y (t .passed));
       }
+    where
+      t : Alternated p (at + 1) (d + 1) e c f n h k (oneMore u at) v
+      t = subst (λ g. Alternated p (at + 1) (d + 1) e c f n h k g v) is t′
+
+      marked : Dec (u .count < maxFields) → Wrote p f n g m (tokens (bracketed (u .count) (shape (t .t) (suc (u .count)))))
+      marked (yes l) =
+          record {
+            codes = t .wrote .codes ++ ((firstField + u .count) ∷ []);
+            are = field-codes p (t .wrote .codes) (shape (t .t) (suc (u .count))) (t .wrote .are) (u .count) l;
+            holds = λ a b. rw (← append-assoc a (t .wrote .codes) ((firstField + u .count) ∷ [])) (z .added l .holds (a ++ t .wrote .codes) (t .wrote .holds a b));
+          }
+      marked (no l) =
+          let e = z .kept l in
+          rw (e .0, e .1) (record { codes = t .wrote .codes; are = unmarked-codes p (t .wrote .codes) (shape (t .t) (suc (u .count))) (t .wrote .are) (u .count) (omega arith); holds = t .wrote .holds })

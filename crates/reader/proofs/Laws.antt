@@ -20,20 +20,24 @@ use Rattle.arrays.specs.Finished.{HoldsPattern}
 use Rattle.arrays.proofs.Laws.{masks-hold}
 use Rattle.reader.specs.declared.Answer.the-variants.{Accepted, Refused}
 use Rattle.reader.specs.declared.Reading.{Reading}
-use Rattle.reader.specs.Reading.{Written, accepted, refused, meaning, due, Beside, ReadRight}
+use Rattle.reader.specs.Reading.{Written, accepted, refused, meaning, due, Beside, bracketsDue, ReadRight}
 
 module _ {p : List ℕ} {r : Reading} (h : ReadRight p r) where
   -- THE ANSWER AND THE ARRAYS ARE THOSE OF THE DEFINITION: one equation, for every pattern.
   pub reading-is : meaning (r .answer) (r .pattern) ≡ due (read p)
   reading-is = h .means ∙ ap due (sym (right-unique p (h .answer) (h .right)))
 
-  -- Accepted: the pattern is in the grammar and within the limits, and the arrays decode to its written-out pattern.
-  pub accepted-reads : r .answer ≡ Accepted → (t : Alternation) × Reads p t × (decode (r .pattern) ≡ writeOut t)
-  accepted-reads e = go (h .answer) (h .right) (ap (λ a. meaning a (r .pattern)) (sym e) ∙ h .means)
+  -- Accepted: the pattern is in the grammar and within the limits, its brackets are counted, and the arrays decode to its written-out pattern.
+  pub accepted-tree : r .answer ≡ Accepted → (t : Alternation) × Reads p t × (r .brackets ≡ bracketsDue (Due.accepted t)) × (decode (r .pattern) ≡ writeOut t)
+  accepted-tree e = go (h .answer) (h .right) (h .counted) (ap (λ a. meaning a (r .pattern)) (sym e) ∙ h .means)
     where
-      go : (a : Due.Answer) → Right p a → accepted (decode (r .pattern)) ≡ due a → (t : Alternation) × Reads p t × (decode (r .pattern) ≡ writeOut t)
-      go (Due.accepted t) w q = (t, w, (cc))
-      go (Due.refused n k) w q = absurd (let z : _≡_ {A = ℕ} 0 1 = cc in omega arith)
+      go : (a : Due.Answer) → Right p a → r .brackets ≡ bracketsDue a → accepted (decode (r .pattern)) ≡ due a
+          → (t : Alternation) × Reads p t × (r .brackets ≡ bracketsDue (Due.accepted t)) × (decode (r .pattern) ≡ writeOut t)
+      go (Due.accepted t) w b q = (t, w, b, (cc))
+      go (Due.refused n k) w b q = absurd (let z : _≡_ {A = ℕ} 0 1 = cc in omega arith)
+
+  pub accepted-reads : r .answer ≡ Accepted → (t : Alternation) × Reads p t × (decode (r .pattern) ≡ writeOut t)
+  accepted-reads e = let (t, w, b, q) = accepted-tree e in (t, w, q)
 
   -- Its leaves are numbered from 0, and at most 64.
   pub accepted-leaves : r .answer ≡ Accepted → Numbered 0 (decode (r .pattern)) × (count (decode (r .pattern)) ≤ 64)

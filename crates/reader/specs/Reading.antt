@@ -2,8 +2,11 @@
 -- Assumes nothing.
 use mathlib.Core.Path.{_≡_}
 use Prim.Native.Nat.{ℕ}
+use mathlib.Core.Bool.{cond}
 use mathlib.Core.List.{List}
+use lib.Dec.{ltb}
 use Rattle.theory.specs.Pattern.{Re}
+use Rattle.grammar.specs.Brackets.{brackets, maxFields, ninth}
 use Rattle.grammar.specs.WriteOut.{writeOut}
 use Rattle.grammar.specs.Refusals.{Right}
 use Rattle.grammar.specs.Refusals as Due
@@ -12,6 +15,7 @@ use Rattle.arrays.specs.Decoded.{decode, blank}
 use Rattle.arrays.specs.Finished.{HoldsPattern}
 use Rattle.reader.specs.declared.Answer.{Answer}
 use Rattle.reader.specs.declared.Answer.the-variants.{Accepted, Refused}
+use Rattle.reader.specs.declared.Brackets.{Brackets}
 use Rattle.reader.specs.declared.Reading.{Reading}
 
 -- The written-out pattern, or the refusal's number and place.
@@ -34,9 +38,18 @@ abbrev pub Beside : Answer → Pattern → Type 0
 Beside Accepted x = HoldsPattern x (decode x)
 Beside (Refused n q) x = x ≡ blank
 
+-- The brackets: how many there are, and the place of the ninth if there is one.
+abbrev pub noBrackets : Brackets
+noBrackets = record { count = 0; ninth = 0 }
+
+abbrev pub bracketsDue : Due.Answer → Brackets
+bracketsDue (Due.accepted t) = record { count = brackets t; ninth = cond (ltb maxFields (brackets t)) (ninth t) 0 }
+bracketsDue (Due.refused n q) = noBrackets
+
 -- The reader's answer is the one that is right, and the arrays are the written-out pattern's, leaf sets included.
 pub record ReadRight (p : List ℕ) (r : Reading) : Type 0 where
   pub answer : Due.Answer
   pub right : Right p answer
   pub means : meaning (r .answer) (r .pattern) ≡ due answer
   pub beside : Beside (r .answer) (r .pattern)
+  pub counted : r .brackets ≡ bracketsDue answer

@@ -2,7 +2,7 @@
 -- Assumes nothing.
 use mathlib.Core.Path.{_≡_}
 use mathlib.Core.Logic.{_≢_}
-use Prim.Native.Nat.{ℕ, _+_, _≤_, _<_, max, min}
+use Prim.Native.Nat.{ℕ, suc, _+_, _-_, _≤_, _<_, max, min}
 use mathlib.Core.Bool.{Bool, true, false, cond}
 use mathlib.Core.List.{List, [], _∷_, _++_, map}
 use lib.ListN.{length, getD, drop}
@@ -10,6 +10,7 @@ use lib.Dec.{eqb, ltb}
 use Rattle.theory.specs.Pattern.{Re}
 use Rattle.grammar.specs.Grammar.{Repeat, Alternation, Sequence, Atom, Kind, ordinary, backslash, bar, opener, closer, bracket, brace, period, stray, sign, kind, special, repeatText, alternation, sequence, atom, WfAlternation, WfSequence, WfAtom, WfRepeat}
 use Rattle.grammar.specs.Limits.{maxBytes, maxDepth, maxWeight, depth, depthSequence, depthAtom, times, repeated, weight, weights, weightAtom, heaviest, heaviestWithin, heaviestAtom}
+use Rattle.grammar.specs.Brackets.{openings, openingsWithin, openingsAtom, maxFields}
 use Rattle.grammar.specs.WriteOut.{chain, shape, parts, shapeAtom, repeatOf}
 use Rattle.grammar.specs.Before.{Before, text, opens, isOnce, ready, WfBefore}
 use Rattle.grammar.specs.Refusals.{Fault}
@@ -19,6 +20,7 @@ use Rattle.tokens.specs.Held.{HoldsCodes, Added}
 use Rattle.reader.specs.declared.Answer.{Answer}
 use Rattle.reader.specs.declared.Answer.the-variants.{Accepted}
 use Rattle.reader.specs.declared.Answer.the-variants as Answer
+use Rattle.reader.specs.declared.Brackets.{Brackets}
 use Rattle.reader.specs.declared.Part.{Part}
 use Rattle.reader.specs.declared.Part.the-variants.{Read, Refused}
 
@@ -80,6 +82,20 @@ pub data Weighs (c w h : ℕ) : Type 0 where
 abbrev pub loadOf : ℕ → ℕ → ℕ
 loadOf n v = cond (eqb v aboveLimit) aboveLimit (min aboveLimit (times n v))
 
+-- The brackets g and one more, at the place q.
+abbrev pub oneMore : Brackets → ℕ → Brackets
+oneMore g q = record { count = suc (g .count); ninth = cond (eqb (g .count) maxFields) q (g .ninth) }
+
+-- The brackets g and more, each given by the text from it on to the end of a pattern of n bytes.
+unfoldable pub andMore : ℕ → Brackets → List (List ℕ) → Brackets
+andMore n g [] = g
+andMore n g (s ∷ l) = andMore n (oneMore g (n - length s)) l
+
+-- The brackets became h over a part from the place `at` to e whose brackets are l, and are no more than the bytes.
+pub record Passed (p : List ℕ) (at e : ℕ) (l : List (List ℕ)) (g h : Brackets) : Type 0 where
+  pub are : h ≡ andMore (length p) g l
+  pub few : g .count ≤ at → h .count ≤ e
+
 -- The tokens of the parts of a sequence: none if it has none.
 unfoldable pub tokensOf : List Re → List Token
 tokensOf [] = []
@@ -108,7 +124,7 @@ pub data PartRead (p : List ℕ) (F : ℕ → ℕ → Type 0) : Part → Type 0 
   found-fault : {k q : ℕ} → Fault p k q → PartRead p F (Refused k q)
 
 -- An alternation from the place `at` to e, weighing c.
-pub record Alternated (p : List ℕ) (at d e c : ℕ) (a : List ℕ) (n : ℕ) (b : List ℕ) (m : ℕ) : Type 0 where
+pub record Alternated (p : List ℕ) (at d e c : ℕ) (a : List ℕ) (n : ℕ) (b : List ℕ) (m : ℕ) (g h : Brackets) : Type 0 where
   pub t : Alternation
   pub formed : WfAlternation t
   pub shallow : d + depth t ≤ maxDepth
@@ -116,14 +132,15 @@ pub record Alternated (p : List ℕ) (at d e c : ℕ) (a : List ℕ) (n : ℕ) (
   pub forward : at ≤ e
   pub inside : e ≤ length p
   pub end : e < length p → getD p e 0 ≡ 41
-  pub wrote : Wrote p a n b m (tokens (shape t))
+  pub wrote : Wrote p a n b m (tokens (shape t (g .count)))
   pub load : Weighs c (weight t) (heaviest t)
+  pub passed : Passed p at e (openings t (drop e p)) g h
 
-abbrev pub AlternationRead : List ℕ → ℕ → ℕ → List ℕ → ℕ → List ℕ → ℕ → Part → Type 0
-AlternationRead p at d a n b m = PartRead p (λ e c. Alternated p at d e c a n b m)
+abbrev pub AlternationRead : List ℕ → ℕ → ℕ → List ℕ → ℕ → List ℕ → ℕ → Brackets → Brackets → Part → Type 0
+AlternationRead p at d a n b m g h = PartRead p (λ e c. Alternated p at d e c a n b m g h)
 
 -- A sequence.
-pub record Sequenced (p : List ℕ) (at d e c : ℕ) (a : List ℕ) (n : ℕ) (b : List ℕ) (m : ℕ) : Type 0 where
+pub record Sequenced (p : List ℕ) (at d e c : ℕ) (a : List ℕ) (n : ℕ) (b : List ℕ) (m : ℕ) (g h : Brackets) : Type 0 where
   pub q : Sequence
   pub formed : WfSequence q
   pub shallow : d + depthSequence q ≤ maxDepth
@@ -131,25 +148,31 @@ pub record Sequenced (p : List ℕ) (at d e c : ℕ) (a : List ℕ) (n : ℕ) (b
   pub forward : at ≤ e
   pub inside : e ≤ length p
   pub end : e < length p → getD p e 0 ≢ 124 → getD p e 0 ≡ 41
-  pub wrote : Wrote p a n b m (tokensOf (parts q))
+  pub wrote : Wrote p a n b m (tokensOf (parts q (g .count)))
   pub load : Weighs c (weights q) (heaviestWithin q)
+  pub passed : Passed p at e (openingsWithin q (drop e p)) g h
 
-abbrev pub SequenceRead : List ℕ → ℕ → ℕ → List ℕ → ℕ → List ℕ → ℕ → Part → Type 0
-SequenceRead p at d a n b m = PartRead p (λ e c. Sequenced p at d e c a n b m)
+abbrev pub SequenceRead : List ℕ → ℕ → ℕ → List ℕ → ℕ → List ℕ → ℕ → Brackets → Brackets → Part → Type 0
+SequenceRead p at d a n b m g h = PartRead p (λ e c. Sequenced p at d e c a n b m g h)
 
 -- An atom.
-pub record Atomic (p : List ℕ) (at d e c : ℕ) (a : List ℕ) (n : ℕ) (b : List ℕ) (m : ℕ) : Type 0 where
+pub record Atomic (p : List ℕ) (at d e c : ℕ) (a : List ℕ) (n : ℕ) (b : List ℕ) (m : ℕ) (g h : Brackets) : Type 0 where
   pub x : Atom
   pub formed : WfAtom x
   pub shallow : d + depthAtom x ≤ maxDepth
   pub text : atom x (drop e p) ≡ drop at p
   pub forward : at < e
   pub inside : e ≤ length p
-  pub wrote : Wrote p a n b m (tokens (shapeAtom x))
+  pub wrote : Wrote p a n b m (tokens (shapeAtom x (g .count)))
   pub load : Weighs c (weightAtom x) (heaviestAtom x)
+  pub passed : Passed p at e (openingsAtom x (drop e p)) g h
 
-abbrev pub AtomRead : List ℕ → ℕ → ℕ → List ℕ → ℕ → List ℕ → ℕ → Part → Type 0
-AtomRead p at d a n b m = PartRead p (λ e c. Atomic p at d e c a n b m)
+abbrev pub AtomRead : List ℕ → ℕ → ℕ → List ℕ → ℕ → List ℕ → ℕ → Brackets → Brackets → Part → Type 0
+AtomRead p at d a n b m g h = PartRead p (λ e c. Atomic p at d e c a n b m g h)
+
+-- An atom that is no group: whatever the brackets are, they stay.
+abbrev pub LeafRead : List ℕ → ℕ → ℕ → List ℕ → ℕ → List ℕ → ℕ → Part → Type 0
+LeafRead p at d a n b m = PartRead p (λ e c. (g : Brackets) → Atomic p at d e c a n b m g g)
 
 -- A repeat, or none, after an atom that weighs v and whose codes begin at the place `from`.
 pub record Repeated (p : List ℕ) (at v e c : ℕ) (a : List ℕ) (n from : ℕ) (b : List ℕ) (m : ℕ) : Type 0 where

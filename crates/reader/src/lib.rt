@@ -6,9 +6,10 @@ ghost use Prim.Native.Nat.{ℕ, _+_, _≤_, _<_, min, max};
 ghost use mathlib.Core.List.{List, [], _∷_};
 ghost use lib.ListN.{length, getD};
 ghost use Rattle.grammar.specs.Limits.{maxBytes};
-ghost use Rattle.grammar.specs.Code.Codes.{emptyKind, sequenceKind, firstLeaf};
-ghost use Rattle.reader.specs.Steps.{isSpecial, aboveLimit, loadOf, Begun, Ready, AtomAt, AlternationRead, SequenceRead, AtomRead, RepeatRead, AddedIf, answerBy};
-ghost use Rattle.reader.specs.Reading.{ReadRight};
+ghost use Rattle.grammar.specs.Brackets.{maxFields};
+ghost use Rattle.grammar.specs.Code.Codes.{emptyKind, sequenceKind, firstField, firstLeaf};
+ghost use Rattle.reader.specs.Steps.{isSpecial, aboveLimit, loadOf, oneMore, Begun, Ready, AtomAt, AlternationRead, SequenceRead, AtomRead, LeafRead, RepeatRead, AddedIf, answerBy};
+ghost use Rattle.reader.specs.Reading.{noBrackets, ReadRight};
 ghost use Rattle.tokens.specs.Held.{Added};
 use arrays::Codes;
 use arrays::Pattern;
@@ -21,10 +22,11 @@ pub enum Answer {
     Refused { number: u8, place: usize },
 }
 
-// The answer beside the pattern's arrays; those of a refused pattern are empty.
+// The answer beside the pattern's arrays and its brackets; a refused pattern has none.
 pub struct Reading {
     pub answer: Answer,
     pub pattern: Pattern,
+    pub brackets: Brackets,
 }
 
 // What reading from a place finds: the place after it, and its weight, ABOVE_LIMIT for any above the limit; or the refusal.
@@ -37,6 +39,19 @@ pub enum Part {
 pub struct Step {
     pub part: Part,
     pub len: usize,
+}
+
+// The opening brackets of the text: how many there are, and the place of the ninth, or 0 if there are fewer.
+pub struct Brackets {
+    pub count: usize,
+    pub ninth: usize,
+}
+
+// A step with the brackets up to where it ends.
+pub struct Walk {
+    pub part: Part,
+    pub len: usize,
+    pub brackets: Brackets,
 }
 
 // The byte that begins a count.
@@ -66,6 +81,41 @@ fn refused(number: u8, place: usize, len: usize) -> Step
             place: place,
         },
         len: len,
+    }
+}
+
+fn walked(step: Step, brackets: Brackets) -> Walk
+    ensures { λ r. ⌜ r ≡ record { part = step .part; len = step .len; brackets = brackets } ⌝ }
+{
+    let part = step.part;
+    Walk {
+        part: part,
+        len: step.len,
+        brackets: brackets,
+    }
+}
+
+fn no_brackets() -> Brackets
+    ensures { λ r. ⌜ r ≡ noBrackets ⌝ }
+{
+    Brackets { count: 0, ninth: 0 }
+}
+
+// One bracket more, at the place `at`.
+fn opened(b: Brackets, at: usize) -> Brackets
+    requires { ⌜ b .count ≤ maxBytes ⌝ }
+    ensures { λ r. ⌜ r ≡ oneMore b at ⌝ }
+{
+    let count = b.count + 1;
+    if b.count == Pattern::MAX_FIELDS {
+        return Brackets {
+            count: count,
+            ninth: at,
+        };
+    }
+    Brackets {
+        count: count,
+        ninth: b.ninth,
     }
 }
 
@@ -168,6 +218,17 @@ fn repeat(s: &[u8], at: usize, weight: usize, a: &mut Codes, len: usize, from: u
     found(at, weight, len)
 }
 
+// A bracket after n others is a field if it is one of the first eight.
+fn push_field(a: &mut Codes, len: usize, n: usize) -> usize
+    ensures { λ r. ⌜ AddedIf (n < maxFields) (now (a .entry)) len (firstField + n) (now (a .exit)) r ⌝ }
+{
+    if n < Pattern::MAX_FIELDS {
+        let code = arrays::FIELD_CODE + n as u16;
+        return tokens::push(a, len, code);
+    }
+    len
+}
+
 // A leaf's code is its place after the kinds.
 fn push_leaf(a: &mut Codes, len: usize, at: usize) -> usize
     requires { ⌜ at ≤ maxBytes ⌝ }
@@ -180,7 +241,7 @@ fn push_leaf(a: &mut Codes, len: usize, at: usize) -> usize
 // An escaped byte.
 fn escaped(s: &[u8], at: usize, depth: usize, a: &mut Codes, len: usize) -> Step
     requires { ⌜ Begun (now s) at depth × (at < length (now s)) × (getD (now s) at 0 ≡ 92) ⌝ }
-    ensures { λ r. ⌜ AtomRead (now (s .entry)) at depth (now (a .entry)) len (now (a .exit)) (r .len) (r .part) ⌝ }
+    ensures { λ r. ⌜ LeafRead (now (s .entry)) at depth (now (a .entry)) len (now (a .exit)) (r .len) (r .part) ⌝ }
 {
     if at + 1 == s.len() {
         return refused(3, at, len);
@@ -195,7 +256,7 @@ fn escaped(s: &[u8], at: usize, depth: usize, a: &mut Codes, len: usize) -> Step
 // A class.
 fn class_atom(s: &[u8], at: usize, depth: usize, a: &mut Codes, len: usize) -> Step
     requires { ⌜ Begun (now s) at depth × (at < length (now s)) × (getD (now s) at 0 ≡ 91) ⌝ }
-    ensures { λ r. ⌜ AtomRead (now (s .entry)) at depth (now (a .entry)) len (now (a .exit)) (r .len) (r .part) ⌝ }
+    ensures { λ r. ⌜ LeafRead (now (s .entry)) at depth (now (a .entry)) len (now (a .exit)) (r .len) (r .part) ⌝ }
 {
     let class = scanner::read_class(s, at + 1);
     let Class::Ends { next } = class else {
@@ -208,7 +269,7 @@ fn class_atom(s: &[u8], at: usize, depth: usize, a: &mut Codes, len: usize) -> S
 // An atom that is no group.
 fn leaf(s: &[u8], at: usize, depth: usize, a: &mut Codes, len: usize) -> Step
     requires { ⌜ Begun (now s) at depth × AtomAt (now s) at × (getD (now s) at 0 ≢ 40) ⌝ }
-    ensures { λ r. ⌜ AtomRead (now (s .entry)) at depth (now (a .entry)) len (now (a .exit)) (r .len) (r .part) ⌝ }
+    ensures { λ r. ⌜ LeafRead (now (s .entry)) at depth (now (a .entry)) len (now (a .exit)) (r .len) (r .part) ⌝ }
 {
     let b = s[at];
     if b == b'\\' {
@@ -228,21 +289,23 @@ fn leaf(s: &[u8], at: usize, depth: usize, a: &mut Codes, len: usize) -> Step
     found(at + 1, 1, n)
 }
 
-fn alternation(s: &[u8], at: usize, depth: usize, a: &mut Codes, len: usize) -> Step
-    requires { ⌜ Begun (now s) at depth ⌝ }
-    ensures { λ r. ⌜ AlternationRead (now (s .entry)) at depth (now (a .entry)) len (now (a .exit)) (r .len) (r .part) ⌝ }
+// From here on b is the brackets before the place.
+fn alternation(s: &[u8], at: usize, depth: usize, a: &mut Codes, len: usize, b: Brackets) -> Walk
+    requires { ⌜ Begun (now s) at depth × (b .count ≤ at) ⌝ }
+    ensures { λ r. ⌜ AlternationRead (now (s .entry)) at depth (now (a .entry)) len (now (a .exit)) (r .len) b (r .brackets) (r .part) ⌝ }
 {
-    let first = sequence(s, at, depth, a, len);
+    let first = sequence(s, at, depth, a, len, b);
     let part = first.part;
     let Part::Read { at: end, weight: w } = part else {
         return first;
     };
     let d1 = first.len;
+    let b1 = first.brackets;
     let d2 = push_if_empty(a, d1, w);
     let own = one_at_least(w);
     if end < s.len() {
         if s[end] == b'|' {
-            let rest = alternation(s, end + 1, depth, a, d2);
+            let rest = alternation(s, end + 1, depth, a, d2, b1);
             let more = rest.part;
             let Part::Read {
                 at: last,
@@ -252,33 +315,35 @@ fn alternation(s: &[u8], at: usize, depth: usize, a: &mut Codes, len: usize) -> 
                 return rest;
             };
             let d3 = rest.len;
+            let b2 = rest.brackets;
             let d4 = tokens::push(a, d3, tokens::ALTERNATION);
-            return found(last, plus(own, v), d4);
+            return walked(found(last, plus(own, v), d4), b2);
         }
     }
-    found(end, own, d2)
+    walked(found(end, own, d2), b1)
 }
 
-fn sequence(s: &[u8], at: usize, depth: usize, a: &mut Codes, len: usize) -> Step
-    requires { ⌜ Begun (now s) at depth ⌝ }
-    ensures { λ r. ⌜ SequenceRead (now (s .entry)) at depth (now (a .entry)) len (now (a .exit)) (r .len) (r .part) ⌝ }
+fn sequence(s: &[u8], at: usize, depth: usize, a: &mut Codes, len: usize, b: Brackets) -> Walk
+    requires { ⌜ Begun (now s) at depth × (b .count ≤ at) ⌝ }
+    ensures { λ r. ⌜ SequenceRead (now (s .entry)) at depth (now (a .entry)) len (now (a .exit)) (r .len) b (r .brackets) (r .part) ⌝ }
 {
     if at == s.len() {
-        return found(at, 0, len);
+        return walked(found(at, 0, len), b);
     }
-    let b = s[at];
-    if b == b'|' {
-        return found(at, 0, len);
+    let c = s[at];
+    if c == b'|' {
+        return walked(found(at, 0, len), b);
     }
-    if b == b')' {
-        return found(at, 0, len);
+    if c == b')' {
+        return walked(found(at, 0, len), b);
     }
-    let first = atom(s, at, depth, a, len);
+    let first = atom(s, at, depth, a, len, b);
     let part = first.part;
     let Part::Read { at: end, weight: w } = part else {
         return first;
     };
     let d1 = first.len;
+    let b1 = first.brackets;
     let again = repeat(s, end, w, a, d1, len);
     let repeated = again.part;
     let Part::Read {
@@ -286,10 +351,10 @@ fn sequence(s: &[u8], at: usize, depth: usize, a: &mut Codes, len: usize) -> Ste
         weight: v,
     } = repeated
     else {
-        return again;
+        return walked(again, b1);
     };
     let d2 = again.len;
-    let rest = sequence(s, next, depth, a, d2);
+    let rest = sequence(s, next, depth, a, d2, b1);
     let more = rest.part;
     let Part::Read {
         at: last,
@@ -299,31 +364,35 @@ fn sequence(s: &[u8], at: usize, depth: usize, a: &mut Codes, len: usize) -> Ste
         return rest;
     };
     let d3 = rest.len;
+    let b2 = rest.brackets;
     let d4 = push_if_more(a, d3, u);
-    found(last, plus(v, u), d4)
+    walked(found(last, plus(v, u), d4), b2)
 }
 
-fn atom(s: &[u8], at: usize, depth: usize, a: &mut Codes, len: usize) -> Step
-    requires { ⌜ Begun (now s) at depth × AtomAt (now s) at ⌝ }
-    ensures { λ r. ⌜ AtomRead (now (s .entry)) at depth (now (a .entry)) len (now (a .exit)) (r .len) (r .part) ⌝ }
+fn atom(s: &[u8], at: usize, depth: usize, a: &mut Codes, len: usize, b: Brackets) -> Walk
+    requires { ⌜ Begun (now s) at depth × AtomAt (now s) at × (b .count ≤ at) ⌝ }
+    ensures { λ r. ⌜ AtomRead (now (s .entry)) at depth (now (a .entry)) len (now (a .exit)) (r .len) b (r .brackets) (r .part) ⌝ }
 {
-    let b = s[at];
-    if b != b'(' {
-        return leaf(s, at, depth, a, len);
+    let c = s[at];
+    if c != b'(' {
+        return walked(leaf(s, at, depth, a, len), b);
     }
     if depth == Pattern::MAX_DEPTH {
-        return refused(7, at, len);
+        return walked(refused(7, at, len), b);
     }
-    let inner = alternation(s, at + 1, depth + 1, a, len);
+    let inner = alternation(s, at + 1, depth + 1, a, len, opened(b, at));
     let part = inner.part;
     let Part::Read { at: end, weight: w } = part else {
         return inner;
     };
     let d = inner.len;
+    let b1 = inner.brackets;
     if end == s.len() {
-        return refused(6, end, d);
+        return walked(refused(6, end, d), b1);
     }
-    found(end + 1, w, d)
+    let next = end + 1;
+    let d1 = push_field(a, d, b.count);
+    walked(found(next, w, d1), b1)
 }
 
 // The answer by what was found from the pattern's start.
@@ -365,10 +434,11 @@ pub fn read(s: &[u8]) -> Reading
                 place: Pattern::MAX_BYTES,
             },
             pattern: nothing,
+            brackets: no_brackets(),
         };
     }
     let mut codes = [0u16; Pattern::MAX_PARTS];
-    let whole = alternation(s, 0, 0, &mut codes, 0);
+    let whole = alternation(s, 0, 0, &mut codes, 0, no_brackets());
     let part = whole.part;
     let answer = judged(s, part);
     let Answer::Accepted = answer else {
@@ -376,12 +446,15 @@ pub fn read(s: &[u8]) -> Reading
         return Reading {
             answer: answer,
             pattern: nothing,
+            brackets: no_brackets(),
         };
     };
     let n = whole.len;
+    let brackets = whole.brackets;
     let pattern = arrays::finish(s, &codes, n);
     Reading {
         answer: answer,
         pattern: pattern,
+        brackets: brackets,
     }
 }

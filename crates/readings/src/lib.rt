@@ -1,7 +1,7 @@
 // Both readings of a line, from the pattern's bytes. For many lines with one pattern: `prepare` once, then `matchers::cut` for each.
 ghost use Rattle.matchers.specs.Tables.{tables};
 ghost use Rattle.readings.specs.Replies.{CutBy, Replied};
-ghost use Rattle.readings.specs.Tables.{Prepared};
+ghost use Rattle.readings.specs.Tables.{FilledBy, Prepared};
 use arrays::Pattern;
 use matchers::Spans;
 use reader::Answer;
@@ -47,6 +47,37 @@ pub fn cut_line(pattern: &[u8], line: &[u8]) -> Reply
     }
 }
 
+// Fills the tables by the arrays of an accepted pattern.
+pub fn fill(
+    arrays: Pattern,
+    masks: &mut [u64; 256],
+    rows: &mut [u8; 4225],
+    lens: &mut [u8; 65],
+    sets: &mut [u64; 65],
+    ends: &mut [u8; 65],
+    next: &mut [u64; 257],
+    hows: &mut [u8; 10],
+)
+    ensures filled { λ _. ⌜ FilledBy arrays (tables (now (masks .exit)) (now (rows .exit)) (now (lens .exit)) (now (sets .exit)) (now (ends .exit)) (now (next .exit)) (now (hows .exit))) ⌝ }
+{
+    let own_masks = arrays.masks;
+    let tables = follow::tables_of(arrays);
+    let own_rows = tables.rows;
+    let own_lens = tables.lens;
+    let own_sets = tables.sets;
+    let own_ends = tables.ends;
+    let facts = facts::facts_of(&own_masks, &own_sets, &own_ends);
+    let own_next = facts.next;
+    let own_hows = facts.hows;
+    *masks = own_masks;
+    *rows = own_rows;
+    *lens = own_lens;
+    *sets = own_sets;
+    *ends = own_ends;
+    *next = own_next;
+    *hows = own_hows;
+}
+
 // Reads a pattern and fills its tables, which then serve any number of lines. A refused pattern leaves them as they are.
 pub fn prepare(
     pattern: &[u8],
@@ -68,21 +99,6 @@ pub fn prepare(
         return answer;
     };
     let arrays = reading.pattern;
-    let own_masks = arrays.masks;
-    let tables = follow::tables_of(arrays);
-    let own_rows = tables.rows;
-    let own_lens = tables.lens;
-    let own_sets = tables.sets;
-    let own_ends = tables.ends;
-    let facts = facts::facts_of(&own_masks, &own_sets, &own_ends);
-    let own_next = facts.next;
-    let own_hows = facts.hows;
-    *masks = own_masks;
-    *rows = own_rows;
-    *lens = own_lens;
-    *sets = own_sets;
-    *ends = own_ends;
-    *next = own_next;
-    *hows = own_hows;
+    fill(arrays, masks, rows, lens, sets, ends, next, hows);
     answer
 }

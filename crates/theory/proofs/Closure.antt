@@ -6,7 +6,7 @@ use mathlib.Core.Bool.{Bool, true, false, cond}
 use mathlib.Core.List.{List, [], _∷_, _++_, append-nil, append-assoc}
 use native.Mathlib.Omega.{arith}
 use lib.Dec.{T, eqb, eqb→eq, eqb·suc-suc, eqb·zero-suc, eqb·suc-zero}
-use Rattle.theory.specs.Pattern.{Re, empty, leaf, seq, alt, star, has, count}
+use Rattle.theory.specs.Pattern.{Re, empty, leaf, seq, alt, star, field, has, count}
 use Rattle.theory.specs.Outcomes.{endsAt, wants, andThen, when, thenLeave}
 use Rattle.theory.specs.Code.Follow.{Next, start, follow, after, hasEnd}
 use Rattle.theory.specs.Standing.{fronts, wanted, member, gather, once, from, filter, setOf, Standing}
@@ -93,6 +93,7 @@ closure-right (leaf p s) = refl
 closure-right (seq x y) = rw (closure-right x, closure-right y, items-andThen (start x) (start y)) (splice-once [] (items (start x)) (items (start y)))
 closure-right (alt x y) = rw (closure-right x, closure-right y, items-append) (append-once [] (items (start x)) (items (start y)))
 closure-right (star x) = rw (closure-right x, andThen-emptyTurn, items-append) (append-once [] (items (start x)) (0 ∷ []))
+closure-right (field f x) = closure-right x
 
 pub closureAfter-right : (r : Re) (p : ℕ) → closureAfter r p ≡ once (items (follow r p))
 unfolding closureAfter follow
@@ -116,6 +117,7 @@ closureAfter-right (seq x y) p =
     (sym (gather-append [] (splice (items (start y)) (items (follow x p))) (items (follow y p))))
 closureAfter-right (alt x y) p = rw (closureAfter-right x p, closureAfter-right y p, items-append) (append-once [] (items (follow x p)) (items (follow y p)))
 closureAfter-right (star x) p = rw (closureAfter-right x p, closure-right (star x), items-andThen (follow x p) (start (star x))) (splice-once [] (items (follow x p)) (items (start (star x))))
+closureAfter-right (field f x) p = closureAfter-right x p
 
 moves-right : (r : Re) (b : ℕ) (l : List ℕ) → moves r b l ≡ once (items (afters r b l))
 unfolding moves

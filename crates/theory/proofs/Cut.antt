@@ -12,7 +12,7 @@ use native.Mathlib.Decide.{decLe, ℕ-discrete}
 use lib.ListN.{length, take, drop, length-append, take-append-drop}
 use lib.Seq.{drop-append-add, length-take-le}
 use lib.Dec.{T, eqb, eqb→eq, eqb-refl, ltb, ltb→lt, lt→ltb, leb, leb→le, le→leb, T-not, not-T}
-use Rattle.theory.specs.Pattern.{Re, empty, leaf, seq, alt, star, Numbered}
+use Rattle.theory.specs.Pattern.{Re, empty, leaf, seq, alt, star, field, Numbered}
 use Rattle.theory.specs.Outcomes.{Outcome, endsAt, wants, replace, want, andThen, when, afterTurn, thenLeave, leafOutcomes, outcomes}
 use Rattle.theory.specs.Code.Follow.{Next, after}
 use Rattle.theory.specs.Standing.{firstIs, someIs, standing, isWitness}
@@ -67,6 +67,7 @@ module _ (u w : List ℕ) where
   outcomes-shift (seq x y) i = rw (outcomes-shift x i) (shift-andThen (length u) (λ k. outcomes y (u ++ w) k) (λ k. outcomes y w k) (λ k b. outcomes-shift y k) (outcomes-all x w i))
   outcomes-shift (alt x y) i = rw (outcomes-shift x i, outcomes-shift y i, replace-append)
   outcomes-shift (star x) i = shift-star x (λ j. outcomes-shift x j) (suc (length w)) i (omega arith)
+  outcomes-shift (field f x) i = outcomes-shift x i
 
 -- The ends of a list that are not above n.
 abbrev keep : ℕ → List (Outcome ℕ) → List ℕ

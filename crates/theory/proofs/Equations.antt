@@ -7,7 +7,7 @@ use mathlib.Core.List.{List, [], _∷_, _++_}
 use native.Mathlib.Omega.{arith}
 use lib.ListN.{length, drop, length-drop}
 use lib.Dec.{T, ltb, ltb→lt}
-use Rattle.theory.specs.Pattern.{Re, empty, leaf, seq, alt, star}
+use Rattle.theory.specs.Pattern.{Re, empty, leaf, seq, alt, star, field}
 use Rattle.theory.specs.Outcomes.{Outcome, endsAt, wants, andThen, when, emptyTurn, afterTurn, thenLeave, leafOutcomes, starOutcomes, outcomes}
 use Rattle.theory.proofs.Outcomes.{AllOut, none, end, wish, replace-congr, all-map, all-append, all-replace}
 use Rattle.theory.proofs.Turns.{all-thenLeave, all-afterTurn, afterTurn-congr}
@@ -20,6 +20,7 @@ pub data Leaf : Re → ℕ → Type 0 where
   alt-left : {p : ℕ} {x y : Re} → Leaf x p → Leaf (alt x y) p
   alt-right : {p : ℕ} {x y : Re} → Leaf y p → Leaf (alt x y) p
   under : {p : ℕ} {x : Re} → Leaf x p → Leaf (star x) p
+  inside : {p f : ℕ} {x : Re} → Leaf x p → Leaf (field f x) p
 
 -- Where an end can be: not below the place, and not past the line (nor past the place, if that is past the line).
 abbrev pub InLine : ℕ → ℕ → ℕ → Type 0
@@ -73,6 +74,7 @@ outcomes-all (alt x y) w i =
     (all-map (λ k b. b) (λ p q. alt-left q) (outcomes-all x w i))
     (all-map (λ k b. b) (λ p q. alt-right q) (outcomes-all y w i))
 outcomes-all (star x) w i = all-map (λ k b. b) (λ p q. under q) (starOutcomes-all (outcomes x w) (length w) (λ j. outcomes-all x w j) (suc (length w)) i)
+outcomes-all (field f x) w i = all-map (λ k b. b) (λ p q. inside q) (outcomes-all x w i)
 
 module _ (w : List ℕ) (i : ℕ) where
   pub outcomes-empty : outcomes empty w i ≡ endsAt i ∷ []

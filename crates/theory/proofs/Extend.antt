@@ -8,11 +8,11 @@ use native.Mathlib.Omega.{arith}
 use lib.ListN.{length, drop, length-drop, length-append}
 use lib.Seq.{drop-append-le, drop-length}
 use lib.Dec.{ltb, ltb→lt, lt→ltb, eqb, eqb-refl, eqb→eq}
-use Rattle.theory.specs.Pattern.{Re, empty, leaf, seq, alt, star, has, count, Numbered}
+use Rattle.theory.specs.Pattern.{Re, empty, leaf, seq, alt, star, field, has, count, Numbered}
 use Rattle.theory.specs.Outcomes.{Outcome, endsAt, wants, replace, want, andThen, when, emptyTurn, afterTurn, thenLeave, leafOutcomes, outcomes}
 use Rattle.theory.specs.Code.Follow.{Next, start, follow, after}
 use Rattle.theory.proofs.Outcomes.{AllOut, replace-append, replace-congr, replace-replace, all-map}
-use Rattle.theory.proofs.Equations.{Leaf, seq-left, seq-right, alt-left, alt-right, under, outcomes-all, outcomes-star}
+use Rattle.theory.proofs.Equations.{Leaf, seq-left, seq-right, alt-left, alt-right, under, inside, outcomes-all, outcomes-star}
 use Rattle.theory.proofs.Turns.{replace-emptyTurn, replace-thenLeave, afterTurn-congr, replace-afterTurn}
 use Rattle.theory.proofs.Tests.{T-true, not-true}
 
@@ -28,6 +28,7 @@ has-none (leaf q s) p b h = rw (not-true (eqb p q) λ t. h (rw (eqb→eq p q t) 
 has-none (seq x y) p b h = rw (has-none x p b (λ l. h (seq-left l)), has-none y p b (λ l. h (seq-right l)))
 has-none (alt x y) p b h = rw (has-none x p b (λ l. h (alt-left l)), has-none y p b (λ l. h (alt-right l)))
 has-none (star x) p b h = has-none x p b (λ l. h (under l))
+has-none (field f x) p b h = has-none x p b (λ l. h (inside l))
 
 pub follow-none : (r : Re) (p : ℕ) → (Leaf r p → ⊥) → follow r p ≡ []
 unfolding follow
@@ -36,6 +37,7 @@ follow-none (leaf q s) p h = rw (not-true (eqb p q) λ t. h (rw (eqb→eq p q t)
 follow-none (seq x y) p h = rw (follow-none x p (λ l. h (seq-left l)), follow-none y p (λ l. h (seq-right l)))
 follow-none (alt x y) p h = rw (follow-none x p (λ l. h (alt-left l)), follow-none y p (λ l. h (alt-right l)))
 follow-none (star x) p h = rw (follow-none x p (λ l. h (under l)))
+follow-none (field f x) p h = follow-none x p (λ l. h (inside l))
 
 -- To read a list at the place n and go on from there is to go on from n.
 module _ (n : ℕ) where
@@ -62,6 +64,7 @@ outcomes-end (star x) w =
     ∙ rw (outcomes-end x w, andThen-place, ltb-self)
     (ap (λ l. thenLeave l (length w)) (ap (λ l. andThen (start x) (λ _. l)) (sym (replace-emptyTurn (λ _. length w) want tt)) ∙ sym (place-andThen (length w) (start x) emptyTurn))
     ∙ sym (replace-thenLeave (λ _. length w) want (andThen (start x) emptyTurn) tt))
+outcomes-end (field f x) w = outcomes-end x w
 
 -- What follows a leaf in a part is what follows it in the one below that has the leaf.
 module _ (b p : ℕ) (x y : Re) where
@@ -97,6 +100,10 @@ after-star b p x = go (has x p b)
     go true = refl
     go false = refl
 
+after-field : (b p f : ℕ) (x : Re) → after (field f x) b p ≡ after x b p
+unfolding has follow
+after-field b p f x = refl
+
 -- The leaves of a part numbered from n are those from n on, as many as it has.
 pub leaf-range : {r : Re} {p : ℕ} (n : ℕ) → Numbered n r → Leaf r p → (n ≤ p) × (p < n + count r)
 unfolding Numbered count
@@ -106,6 +113,7 @@ leaf-range n h (seq-right {x = x} {y = y} l) = let c = leaf-range (n + count x) 
 leaf-range n h (alt-left {x = x} {y = y} l) = let c = leaf-range n (h .0) l in omega arith
 leaf-range n h (alt-right {x = x} {y = y} l) = let c = leaf-range (n + count x) (h .1) l in omega arith
 leaf-range n h (under l) = leaf-range n h l
+leaf-range n h (inside l) = leaf-range n h l
 
 -- No leaf has a number from the count on.
 pub has-beyond : (r : Re) → Numbered 0 r → (p b : ℕ) → ¬ (p < count r) → has r p b ≡ false
@@ -191,3 +199,4 @@ module _ (w : List ℕ) (b : ℕ) where
       (grow-congr b (length w) x (alt x y) (λ p q. sym (after-alt-left b p x y (apart n (d .0) (d .1) q))) (outcomes-all x w i))
       (grow-congr b (length w) y (alt x y) (λ p q. sym (after-alt-right b p x y λ l. apart n (d .0) (d .1) l q)) (outcomes-all y w i)))
   extend (star x) n d i h = extend-star x (λ j. extend x n d j) (suc (length w)) i (omega arith) h
+  extend (field f x) n d i h = extend x n d i h ∙ grow-congr b (length w) x (field f x) (λ p q. sym (after-field b p f x)) (outcomes-all x w i)

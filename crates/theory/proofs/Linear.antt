@@ -5,8 +5,8 @@ use mathlib.Core.Logic.{_⊎_, inl, inr, _↔_}
 use Prim.Native.Nat.{ℕ}
 use mathlib.Core.List.{List, [], _∷_, List·Memᴰ as Mem}
 use native.Mathlib.Decide.{ℕ-discrete}
-use Rattle.theory.specs.Pattern.{Re, empty, leaf, seq, alt, star}
-use Rattle.theory.specs.Matching.{Matches, m-seq, m-left, m-right, m-done, m-again}
+use Rattle.theory.specs.Pattern.{Re, empty, leaf, seq, alt, star, field}
+use Rattle.theory.specs.Matching.{Matches, m-seq, m-left, m-right, m-done, m-again, m-field}
 use Rattle.theory.specs.Preference.{Least, ByLeast, by-least, AltWay, altEnd, AltLess, left, right, SeqLess, first, second, StarWay, starEnd, StarLess, turn, rest, Prefer}
 use Rattle.theory.proofs.Tests.{either}
 use Rattle.theory.proofs.Ranked.{Before, before-total, before-trans}
@@ -47,6 +47,7 @@ asym w (leaf p s) i j k l m = l
 asym w (alt x y) i j k l m = flat-asym (alt-asym (Prefer w x i) (Prefer w y i) (asym w x i) (asym w y i)) l m
 asym w (seq x y) i j k l m = flat-asym (seq-asym (Prefer w x i) (Prefer w y) (asym w x i) (asym w y)) l m
 asym w (star x) i j k l m = flat-asym (star-asym (Prefer w x) (asym w x) i) l m
+asym w (field f x) i j k l m = asym w x i j k l m
 
 -- It is an order of matches: a way flattens to a match.
 flat-in : {A : Type 0} {In : A → Type 0} {ρ : A → ℕ} {Less : A → A → Type 0} (M : ℕ → Type 0) {j k : ℕ} → ((a : A) → In a → M (ρ a)) → ByLeast In ρ Less j k → M j × M k
@@ -68,6 +69,7 @@ module _ (w : List ℕ) where
   matches (alt x y) i j k l = flat-in (Matches w (alt x y) i) (alt-match x y i) l
   matches (seq x y) i j k l = flat-in (Matches w (seq x y) i) (λ a m. m-seq (m .0) (m .1)) l
   matches (star x) i j k l = flat-in (Matches w (star x) i) (star-match x i) l
+  matches (field f x) i j k l = let (a, b) = matches x i j k l in (m-field a, m-field b)
 
   module _ (r : Re) (i : ℕ) where
     pub total : {j k : ℕ} → Matches w r i j → Matches w r i k → (j ≡ k) ⊎ (Prefer w r i j k ⊎ Prefer w r i k j)

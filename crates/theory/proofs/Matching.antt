@@ -10,10 +10,10 @@ use native.Mathlib.Nat.{add-zero}
 use lib.ListN.{length, drop, getD, length-drop}
 use lib.Seq.{drop-cons, getD-drop}
 use lib.Dec.{T, eqb, eqb→eq, eqb-refl, ltb, ltb→lt, lt→ltb}
-use Rattle.theory.specs.Pattern.{Re, empty, leaf, seq, alt, star}
+use Rattle.theory.specs.Pattern.{Re, empty, leaf, seq, alt, star, field}
 use Rattle.theory.specs.Outcomes.{Outcome, endsAt, wants, andThen, when, afterTurn, leafOutcomes, outcomes}
 use Rattle.theory.specs.Standing.{someIs}
-use Rattle.theory.specs.Matching.{Matches, m-empty, m-leaf, m-seq, m-left, m-right, m-done, m-again}
+use Rattle.theory.specs.Matching.{Matches, m-empty, m-leaf, m-seq, m-left, m-right, m-done, m-again, m-field}
 use Rattle.theory.proofs.Outcomes.{some-append, some-cases, some-left, some-right, some-in}
 use Rattle.theory.proofs.Turns.{some-leave, some-turns, some-star, some-afterTurn}
 use Rattle.theory.proofs.Equations.{outcomes-all, outcomes-star}
@@ -81,6 +81,7 @@ module _ (w : List ℕ) where
   ends-match (alt x y) i k m =
       either (λ t. m-left (ends-match x i k t)) (λ t. m-right (ends-match y i k t)) (some-cases k (outcomes x w i) (outcomes y w i) m)
   ends-match (star x) i k m = star-ends x (λ j c. ends-match x j c) (suc (length w)) i k (omega arith) m
+  ends-match (field f x) i k m = m-field (ends-match x i k m)
 
   self : (i : ℕ) → T (someIs i (endsAt i ∷ []))
   self i = or-left (eqb i i) false (eqb-refl i)
@@ -97,3 +98,4 @@ module _ (w : List ℕ) where
       rw (outcomes-star w i x)
       (some-turns i k (andThen (outcomes x w i) (λ c. afterTurn i c (outcomes (star x) w c)))
       (some-of (λ c. afterTurn i c (outcomes (star x) w c)) k (outcomes x w i) j (match-ends a) (rw (T-true (ltb i j) (lt→ltb i j h)) (match-ends b))))
+  match-ends (m-field a) = match-ends a

@@ -2,7 +2,7 @@
 -- Assumes nothing.
 use mathlib.Core.Path.{_≡_, refl}
 use Prim.Native.Nat.{ℕ, _+_}
-use Rattle.theory.specs.Pattern.{Re, empty, leaf, seq, alt, star, count, Numbered, number}
+use Rattle.theory.specs.Pattern.{Re, empty, leaf, seq, alt, star, field, count, Numbered, number}
 
 pub number-count : (n : ℕ) (r : Re) → count (number n r) ≡ count r
 unfolding number count
@@ -11,6 +11,7 @@ number-count n (leaf p s) = refl
 number-count n (seq x y) = rw (number-count n x, number-count (n + count x) y)
 number-count n (alt x y) = rw (number-count n x, number-count (n + count x) y)
 number-count n (star x) = number-count n x
+number-count n (field f x) = number-count n x
 
 pub number-right : (n : ℕ) (r : Re) → Numbered n (number n r)
 unfolding number Numbered
@@ -19,3 +20,4 @@ number-right n (leaf p s) = refl
 number-right n (seq x y) = (number-right n x, rw (number-count n x) (number-right (n + count x) y))
 number-right n (alt x y) = (number-right n x, rw (number-count n x) (number-right (n + count x) y))
 number-right n (star x) = number-right n x
+number-right n (field f x) = number-right n x

@@ -11,7 +11,7 @@ use native.Mathlib.Omega.{arith}
 use native.Mathlib.Decide.{ℕ-discrete}
 use lib.ListN.{length, drop}
 use lib.Dec.{T, eqb, eqb→eq, eqb-refl, ltb, ltb→lt, lt→ltb}
-use Rattle.theory.specs.Pattern.{Re, empty, leaf, seq, alt, star}
+use Rattle.theory.specs.Pattern.{Re, empty, leaf, seq, alt, star, field}
 use Rattle.theory.specs.Outcomes.{Outcome, endsAt, wants, andThen, when, leafOutcomes, outcomes}
 use Rattle.theory.specs.Base.{baseStar, base}
 use Rattle.theory.specs.Standing.{someIs}
@@ -139,3 +139,4 @@ module _ (w : List ℕ) where
       (by-ways (×-discrete ℕ-discrete ℕ-discrete) (seq-ways x y i (in-order x i) (in-order y))
       (ends-then (λ j k. (j, k)) (places y) seqEnd (base y w) (λ k. sym (map-id (places y k))) (base x w i)))
   in-order (star x) i = ranked {r = star x} (by-ways (List-discrete ℕ-discrete) (star-ways x (in-order x) (suc (length w)) i (omega arith)) (turns-ends x (suc (length w)) i))
+  in-order (field f x) i = ranked {r = field f x} (in-order x i .sorted)

@@ -9,12 +9,12 @@ use native.Mathlib.Omega.{arith}
 use native.Mathlib.Decide.{ℕ-discrete}
 use lib.ListN.{length}
 use lib.Dec.{T, eqb, eqb→eq, eqb-refl, ltb, lt→ltb}
-use Rattle.theory.specs.Pattern.{Re, empty, leaf, seq, alt, star, count}
+use Rattle.theory.specs.Pattern.{Re, empty, leaf, seq, alt, star, field, count}
 use Rattle.theory.specs.Outcomes.{Outcome, endsAt, wants, andThen, when, emptyTurn, afterTurn, thenLeave, starOutcomes, outcomes}
-use Rattle.theory.specs.Base.{baseStar, base, nullable, Plain}
-use Rattle.theory.specs.Matching.{Matches, m-empty, m-leaf, m-seq, m-left, m-right, m-done, m-again}
+use Rattle.theory.specs.Base.{baseStar, base, nullable, Plain, bare}
+use Rattle.theory.specs.Matching.{Matches, m-empty, m-leaf, m-seq, m-left, m-right, m-done, m-again, m-field}
 use Rattle.theory.specs.Spans.{firstEnd, greatestEnd, leftmost, greedyBy, posixBy, greedy, posix}
-use Rattle.theory.specs.Standing.{fronts, wanted, firstIs, someIs, member, once, from, setOf, standingBy, standing}
+use Rattle.theory.specs.Standing.{fronts, wanted, firstIs, someIs, member, once, from, filter, setOf, standingBy, standing}
 use Rattle.theory.proofs.Tests.{T-true, not-true, same-test, or-left, or-right, or-cases, and-split, and-join, either}
 use Rattle.theory.proofs.Members.{filter-same}
 use Rattle.theory.proofs.Outcomes.{AllOut, end, wish, replace-congr, all-map, some-in}
@@ -109,6 +109,7 @@ base-same (leaf p s) w i = (λ o t. t, λ o t. t)
 base-same (seq x y) w i = (into-then (base-same x w i .0) (λ k. base-same y w k .0), into-then (base-same x w i .1) (λ k. base-same y w k .1))
 base-same (alt x y) w i = (into-append (base-same x w i .0) (base-same y w i .0), into-append (base-same x w i .1) (base-same y w i .1))
 base-same (star x) w i = (star-into (λ k. base-same x w k .0) (suc (length w)) i, star-from (λ k. base-same x w k .1) (suc (length w)) i)
+base-same (field f x) w i = base-same x w i
 
 -- What is read off the set: whether some end is k, and whether p is wanted.
 some-of-in : (k : ℕ) (l : List (Outcome ℕ)) → T (someIs k l) → Mem (endsAt k) l
@@ -169,6 +170,7 @@ module _ (w : List ℕ) where
   nullable-of (m-right {x = x} {y = y} a) e = or-right (nullable x) (nullable y) (nullable-of a e)
   nullable-of m-done e = tt
   nullable-of (m-again h a b) e = tt
+  nullable-of (m-field a) e = nullable-of a e
 
   nullable-matches : (r : Re) (i : ℕ) → T (nullable r) → Matches w r i i
   unfolding nullable
@@ -177,6 +179,7 @@ module _ (w : List ℕ) where
   nullable-matches (seq x y) i t = let (a, b) = and-split (nullable x) (nullable y) t in m-seq (nullable-matches x i a) (nullable-matches y i b)
   nullable-matches (alt x y) i t = either (λ a. m-left (nullable-matches x i a)) (λ b. m-right (nullable-matches y i b)) (or-cases (nullable x) (nullable y) t)
   nullable-matches (star x) i t = m-done
+  nullable-matches (field f x) i t = m-field (nullable-matches x i t)
 
   pub nullable-right : (r : Re) (i : ℕ) → T (nullable r) ↔ Matches w r i i
   nullable-right r i = (nullable-matches r i, λ m. nullable-of m refl)
@@ -203,6 +206,7 @@ module _ (w : List ℕ) where
   plain-base (seq x y) p i = λ t. andThen (plain-base x (p .0) i t) (λ k. plain-base y (p .1) k t)
   plain-base (alt x y) p i = ap₂ _++_ (plain-base x (p .0) i) (plain-base y (p .1) i)
   plain-base (star x) p i = (λ t. starOutcomes (λ k. plain-base x (p .1) k t) (suc (length w)) i) ∙ star-plain (base x w) (λ k. goes-on x k (p .0)) (suc (length w)) i
+  plain-base (field f x) p i = plain-base x p i
 
 module _ (r : Re) (p : Plain r) where
   -- THE GREEDY SPAN OF A PLAIN PATTERN IS AS IT WAS,
@@ -216,3 +220,44 @@ module _ (r : Re) (p : Plain r) where
   plain-standing w =
       let e = plain-base w r p 0 in
       λ t. record { order = once (fronts (e t)); first = firstIs (length w) (e t); all = setOf r (wanted (e t)); some = someIs (length w) (e t) }
+
+-- Brackets change no list.
+bare-outcomes : (r : Re) (w : List ℕ) (i : ℕ) → outcomes r w i ≡ outcomes (bare r) w i
+unfolding outcomes bare
+bare-outcomes empty w i = refl
+bare-outcomes (leaf p s) w i = refl
+bare-outcomes (seq x y) w i = λ t. andThen (bare-outcomes x w i t) (λ k. bare-outcomes y w k t)
+bare-outcomes (alt x y) w i = ap₂ _++_ (bare-outcomes x w i) (bare-outcomes y w i)
+bare-outcomes (star x) w i = λ t. starOutcomes (λ k. bare-outcomes x w k t) (suc (length w)) i
+bare-outcomes (field f x) w i = bare-outcomes x w i
+
+bare-count : (r : Re) → count r ≡ count (bare r)
+unfolding count bare
+bare-count empty = refl
+bare-count (leaf p s) = refl
+bare-count (seq x y) = rw (bare-count x, bare-count y)
+bare-count (alt x y) = rw (bare-count x, bare-count y)
+bare-count (star x) = bare-count x
+bare-count (field f x) = bare-count x
+
+module _ (r : Re) (w : List ℕ) where
+  -- BOTH SPANS ARE AS WITHOUT BRACKETS,
+  pub bare-greedy : greedy r w ≡ greedy (bare r) w
+  unfolding greedy
+  bare-greedy = λ t. leftmost (λ i. firstEnd (bare-outcomes r w i t)) (suc (length w)) 0
+
+  pub bare-posix : posix r w ≡ posix (bare r) w
+  unfolding posix
+  bare-posix = λ t. leftmost (λ i. greatestEnd (bare-outcomes r w i t)) (suc (length w)) 0
+
+  -- AND SO IS EVERY STANDING.
+  pub bare-standing : standing r w ≡ standing (bare r) w
+  unfolding standing
+  bare-standing =
+      let e = bare-outcomes r w 0 in
+      λ t. record {
+        order = once (fronts (e t));
+        first = firstIs (length w) (e t);
+        all = filter (λ p. member p (wanted (e t))) (from 0 (bare-count r t));
+        some = someIs (length w) (e t);
+      }

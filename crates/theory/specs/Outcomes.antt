@@ -5,7 +5,7 @@ use mathlib.Core.Bool.{Bool, true, false, cond}
 use mathlib.Core.List.{List, [], _∷_, _++_}
 use lib.ListN.{length, drop}
 use lib.Dec.{ltb}
-use Rattle.theory.specs.Pattern.{Re, empty, leaf, seq, alt, star}
+use Rattle.theory.specs.Pattern.{Re, empty, leaf, seq, alt, star, field}
 
 -- An "outcome", "ends at k" or "wants leaf p". K is ℕ for a place of a line; `Code.Follow` has lists that depend on no line, where there is one place.
 pub data Outcome (K : Type 0) : Type 0 where
@@ -62,3 +62,4 @@ outcomes (leaf p s) w i = leafOutcomes p s i (drop i w)
 outcomes (seq x y) w i = andThen (outcomes x w i) (outcomes y w)
 outcomes (alt x y) w i = outcomes x w i ++ outcomes y w i
 outcomes (star x) w i = starOutcomes (outcomes x w) (suc (length w)) i
+outcomes (field f x) w i = outcomes x w i

@@ -12,6 +12,7 @@ pub data Re : Type 0 where
   seq : Re → Re → Re
   alt : Re → Re → Re
   star : Re → Re  -- r*
+  field : ℕ → Re → Re  -- a bracket, with its number: "field 1 is the first opening `(`, and so on" (request 2)
 
 -- "r? is r or empty, in that order."
 abbrev pub opt : Re → Re
@@ -24,6 +25,7 @@ count (leaf p s) = 1
 count (seq x y) = count x + count y
 count (alt x y) = count x + count y
 count (star x) = count x
+count (field f x) = count x
 
 -- "Leaves are numbered from 0, left to right": a part with its leaves numbered so from n on,
 unfoldable pub number : ℕ → Re → Re
@@ -32,6 +34,7 @@ number n (leaf p s) = leaf n s
 number n (seq x y) = seq (number n x) (number (n + count x) y)
 number n (alt x y) = alt (number n x) (number (n + count x) y)
 number n (star x) = star (number n x)
+number n (field f x) = field f (number n x)
 
 -- and that a part's leaves are.
 unfoldable pub Numbered : ℕ → Re → Type 0
@@ -40,6 +43,7 @@ Numbered n (leaf p s) = p ≡ n
 Numbered n (seq x y) = Numbered n x × Numbered (n + count x) y
 Numbered n (alt x y) = Numbered n x × Numbered (n + count x) y
 Numbered n (star x) = Numbered n x
+Numbered n (field f x) = Numbered n x
 
 -- The set of the leaf p holds the byte b.
 unfoldable pub has : Re → ℕ → ℕ → Bool
@@ -48,6 +52,7 @@ has (leaf q s) p b = eqb p q && s b
 has (seq x y) p b = has x p b || has y p b
 has (alt x y) p b = has x p b || has y p b
 has (star x) p b = has x p b
+has (field f x) p b = has x p b
 
 -- "Two bytes share a group exactly if each leaf's set holds both or neither."
 abbrev pub SameGroup : Re → ℕ → ℕ → Type 0

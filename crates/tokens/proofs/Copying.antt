@@ -15,7 +15,7 @@ use Rattle.tokens.specs.Copied.{Copied, again}
 use Rattle.tokens.proofs.Blocks.{again-more}
 use Rattle.tokens.proofs.Laws.{lost, full}
 
-pub copy-full : (a : List ℕ) (n from size : ℕ) → 2303 ≤ n → Copied a n from size (λ k. k) a n
+pub copy-full : (a : List ℕ) (n from size : ℕ) → 2815 ≤ n → Copied a n from size (λ k. k) a n
 copy-full a n from size h = record { room = λ r. r; more = omega arith; holds = λ l k z g x y. full a n k h .holds (l ++ (k ++ z)) g }
 
 pub copy-none : (a : List ℕ) (n from size : ℕ) → Copied a n from size (take 0) a n
@@ -25,14 +25,14 @@ three : (l k z : List ℕ) → length (l ++ (k ++ z)) ≡ length l + (length k +
 three l k z = length-append l (k ++ z) ∙ ap (λ n. length l + n) (length-append k z)
 
 -- The code at the place `from + i` of an array that holds a block at `from`, and more after it, is the block's i-th.
-code-here : {b : List ℕ} {m : ℕ} (from i : ℕ) (l k z t : List ℕ) → HoldsCodes b m ((l ++ (k ++ z)) ++ t) → from ≡ length l → i < length k → from + i < 2303 → getD b (from + i) 0 ≡ getD k i 0
+code-here : {b : List ℕ} {m : ℕ} (from i : ℕ) (l k z t : List ℕ) → HoldsCodes b m ((l ++ (k ++ z)) ++ t) → from ≡ length l → i < length k → from + i < 2815 → getD b (from + i) 0 ≡ getD k i 0
 code-here {b} {m} from i l k z t s j u f =
     let o = three l k z in
     let q = length-append (l ++ (k ++ z)) t in
     let v = s .used in
     sym (getD-take m b (from + i) 0 (omega arith))
     ∙ ap (λ x. getD x (from + i) 0) (s .same)
-    ∙ getD-take 2303 ((l ++ (k ++ z)) ++ t) (from + i) 0 f
+    ∙ getD-take 2815 ((l ++ (k ++ z)) ++ t) (from + i) 0 f
     ∙ List·getD-append (l ++ (k ++ z)) t 0 (from + i) (omega arith)
     ∙ ap (λ x. getD (l ++ (k ++ z)) (x + i) 0) j
     ∙ getD-append-add l (k ++ z) i 0
@@ -58,10 +58,10 @@ copy-all {b = b} {m = m} from size i h w =
       room = w .room;
       more = w .more;
       holds = λ l k z g x y.
-          go l k z x y (w .holds l k z g x y) (leb (length l + length k) 2303) (leb→le (length l + length k) 2303) (nleb→lt (length l + length k) 2303);
+          go l k z x y (w .holds l k z g x y) (leb (length l + length k) 2815) (leb→le (length l + length k) 2815) (nleb→lt (length l + length k) 2815);
     }
   where
-    go : (l k z : List ℕ) → from ≡ min 2303 (length l) → from + size ≡ min 2303 (length l + length k) → HoldsCodes b m ((l ++ (k ++ z)) ++ take i k) → (c : Bool) → (T c → length l + length k ≤ 2303) → (T (not c) → 2303 < length l + length k) → HoldsCodes b m ((l ++ (k ++ z)) ++ k)
+    go : (l k z : List ℕ) → from ≡ min 2815 (length l) → from + size ≡ min 2815 (length l + length k) → HoldsCodes b m ((l ++ (k ++ z)) ++ take i k) → (c : Bool) → (T c → length l + length k ≤ 2815) → (T (not c) → 2815 < length l + length k) → HoldsCodes b m ((l ++ (k ++ z)) ++ k)
     go l k z x y s true p q = let r = p tt in rw (take-all i k (omega arith)) at s
     go l k z x y s false p q = let r = q tt in let o = three l k z in lost (l ++ (k ++ z)) (take i k) k (omega arith) s
 

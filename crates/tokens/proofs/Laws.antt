@@ -11,7 +11,7 @@ use lib.ListN.{length, take, set, length-append, length-set}
 use lib.Seq.{take-all, take-append-le, take-suc-set, take-take}
 use Rattle.tokens.specs.Held.{HoldsCodes, Added, Rewritten}
 
-pub pushed : (a : List ℕ) (n code : ℕ) → n < 2303 → Added a n (code ∷ []) (set a n code) (n + 1)
+pub pushed : (a : List ℕ) (n code : ℕ) → n < 2815 → Added a n (code ∷ []) (set a n code) (n + 1)
 pushed a n code h =
     record {
       room = λ r. omega arith;
@@ -23,21 +23,21 @@ pushed a n code h =
             size = length-set a n code ∙ k .size;
             used = omega arith;
             same =
-                rw (add-one n, take-suc-set a n code (omega (arith, k .size)), k .same, take-all 2303 l (omega arith))
-                (sym (take-all 2303 (l ++ (code ∷ [])) (omega arith)));
+                rw (add-one n, take-suc-set a n code (omega (arith, k .size)), k .same, take-all 2815 l (omega arith))
+                (sym (take-all 2815 (l ++ (code ∷ [])) (omega arith)));
           };
     }
 
 -- Where the codes l fill the array, what comes after them is lost.
-pub lost : {a : List ℕ} {n : ℕ} (l y z : List ℕ) → 2303 ≤ length l → HoldsCodes a n (l ++ y) → HoldsCodes a n (l ++ z)
+pub lost : {a : List ℕ} {n : ℕ} (l y z : List ℕ) → 2815 ≤ length l → HoldsCodes a n (l ++ y) → HoldsCodes a n (l ++ z)
 lost l y z h k =
     record {
       size = k .size;
       used = omega (arith, k .used, length-append l y, length-append l z);
-      same = k .same ∙ take-append-le 2303 l y h ∙ sym (take-append-le 2303 l z h);
+      same = k .same ∙ take-append-le 2815 l y h ∙ sym (take-append-le 2815 l z h);
     }
 
-pub full : (a : List ℕ) (n : ℕ) (k : List ℕ) → 2303 ≤ n → Added a n k a n
+pub full : (a : List ℕ) (n : ℕ) (k : List ℕ) → 2815 ≤ n → Added a n k a n
 full a n k h =
     record {
       room = λ r. r;
@@ -83,14 +83,14 @@ pub same-codes : {a b : List ℕ} {n m from : ℕ} {f g : List ℕ → List ℕ}
 same-codes w e = record { room = w .room; more = w .more; holds = λ l k h s. rw (e k) at (w .holds l k h s) }
 
 -- The array that is used up to a part holds what stands before it.
-take-front : (n : ℕ) (l : List ℕ) → n ≡ min 2303 (length l) → take n l ≡ take 2303 l
-take-front n l e = go (leb (length l) 2303) (leb→le (length l) 2303) (nleb→lt (length l) 2303)
+take-front : (n : ℕ) (l : List ℕ) → n ≡ min 2815 (length l) → take n l ≡ take 2815 l
+take-front n l e = go (leb (length l) 2815) (leb→le (length l) 2815) (nleb→lt (length l) 2815)
   where
-    go : (b : Bool) → (T b → length l ≤ 2303) → (T (not b) → 2303 < length l) → take n l ≡ take 2303 l
-    go true p q = let s = p tt in take-all n l (omega arith) ∙ sym (take-all 2303 l (omega arith))
-    go false p q = let s = q tt in let j : n ≡ 2303 = omega arith in ap (λ i. take i l) j
+    go : (b : Bool) → (T b → length l ≤ 2815) → (T (not b) → 2815 < length l) → take n l ≡ take 2815 l
+    go true p q = let s = p tt in take-all n l (omega arith) ∙ sym (take-all 2815 l (omega arith))
+    go false p q = let s = q tt in let j : n ≡ 2815 = omega arith in ap (λ i. take i l) j
 
-front : {a : List ℕ} {n from : ℕ} (l k : List ℕ) → from ≤ n → from ≡ min 2303 (length l) → HoldsCodes a n (l ++ k) → HoldsCodes a from l
+front : {a : List ℕ} {n from : ℕ} (l k : List ℕ) → from ≤ n → from ≡ min 2815 (length l) → HoldsCodes a n (l ++ k) → HoldsCodes a from l
 front {a} {n} {from} l k h e g =
     record {
       size = g .size;
@@ -98,7 +98,7 @@ front {a} {n} {from} l k h e g =
       same =
           sym (take-take from n a h)
           ∙ ap (λ u. take from u) (g .same)
-          ∙ take-take from 2303 (l ++ k) (omega arith)
+          ∙ take-take from 2815 (l ++ k) (omega arith)
           ∙ take-append-le from l k (omega arith)
           ∙ take-front from l e;
     }

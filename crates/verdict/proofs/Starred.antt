@@ -19,7 +19,7 @@ use Rattle.grammar.specs.Grammar.{Alternation, kind, inside}
 use Rattle.grammar.specs.Limits.{Reads, heaviest, weight}
 use Rattle.grammar.specs.Refusals.{Answer, accepted, refused, Right}
 use Rattle.grammar.specs.Code.Reader.{read, loop, readItems}
-use Rattle.grammar.specs.WriteOut.{writeOut, shape, chain, optional}
+use Rattle.grammar.specs.WriteOut.{writeOut, bracketed, shape, chain, optional}
 use Rattle.grammar.proofs.Sound.{read-right}
 use Rattle.grammar.proofs.Size.{writeOut-numbered}
 use Rattle.verdict.specs.Bits.{bits, pack}
@@ -97,5 +97,5 @@ all-hold [] e = tt
 all-hold (x ∷ l) e = (row-holds x (cc), all-hold l (cc))
 
 pub starred-hold : All starred
-unfolding starred computed greedy posix outcomes starOutcomes emptyTurn thenLeave start follow has count standing next check run seek standing-dec list-dec stands-add decLt decLe ℕ-discrete read loop kind inside readItems heaviest weight writeOut shape chain optional number bits pack recordBits recordBytes same numberOf recordsOf slots
+unfolding starred computed greedy posix outcomes starOutcomes emptyTurn thenLeave start follow has count standing next check run seek standing-dec list-dec stands-add decLt decLe ℕ-discrete read loop kind inside readItems heaviest weight writeOut bracketed shape chain optional number bits pack recordBits recordBytes same numberOf recordsOf slots
 starred-hold = all-hold starred refl

@@ -41,7 +41,7 @@ pow-digit-below p q h = rw (div-eq-of-lt (pow-lt h))
 pow-digit-above : (q k : ℕ) → 2 ^ (q + suc k) / 2 ^ q % 2 ≡ 0
 pow-digit-above q k = rw (pow-add 2 q (suc k), mul-div-right (2 ^ suc k) (pow-pos q), pow-suc 2 k) (omega arith)
 
-pow-bit : (p q : ℕ) → hasBit (2 ^ p) q ≡ eqb q p
+pub pow-bit : (p q : ℕ) → hasBit (2 ^ p) q ≡ eqb q p
 pow-bit p q = go (decLt p q) (decLt q p)
   where
     go : Dec (p < q) → Dec (q < p) → hasBit (2 ^ p) q ≡ eqb q p
@@ -57,9 +57,9 @@ pow-bit p q = go (decLt p q) (decLt q p)
 pub no-more : (x q : ℕ) → x < 18446744073709551616 → 64 ≤ q → hasBit x q ≡ false
 no-more x q h k = let e : x / 2 ^ q ≡ 0 = div-eq-of-lt (lt-of-lt-of-le {m = 2 ^ 64} h (pow-mono k)) in rw e
 
--- The number with the one bit p, as the code makes it.
-pub shifted : (p : ℕ) → p < 64 → 1 * 2 ^ p % 18446744073709551616 ≡ 2 ^ p
-shifted p h = rw (one-mul (2 ^ p)) (mod-eq-of-lt {n = 2 ^ p} {m = 2 ^ 64} (pow-lt h))
+-- The number of w bits with the one bit p, as the code makes it.
+pub shifted : (w p : ℕ) → p < w → 1 * 2 ^ p % 2 ^ w ≡ 2 ^ p
+shifted w p h = rw (one-mul (2 ^ p)) (mod-eq-of-lt {n = 2 ^ p} {m = 2 ^ w} (pow-lt h))
 
 -- One leaf more.
 pub with-bit : (x p q : ℕ) → p < 64 → hasBit (withLeaf x p) q ≡ (hasBit x q || eqb q p)

@@ -1,6 +1,6 @@
 // Small total functions over machine words: sets of at most 64 leaves as the bits of a number, bit p for the leaf p, and numbers.
 ghost use mathlib.Core.Path.{_≡_};
-ghost use mathlib.Core.Bool.{_||_};
+ghost use mathlib.Core.Bool.{_&&_, _||_};
 ghost use Prim.Native.Nat.{_<_, min};
 ghost use lib.ListN.{length};
 ghost use lib.Bits.{bitOr};
@@ -29,6 +29,13 @@ pub fn union(x: u64, y: u64) -> u64
     ensures union { λ r. ⌜ r ≡ bitOr x y ⌝ }
 {
     x | y
+}
+
+// The same of two sets of 16 bits.
+pub fn union_u16(a: u16, b: u16) -> u16
+    ensures union { λ r. ⌜ r ≡ bitOr a b ⌝ }
+{
+    a | b
 }
 
 // The set x with the leaf p, if there can be one.
@@ -87,7 +94,13 @@ pub fn least(a: usize, b: usize) -> usize
     if a < b { a } else { b }
 }
 
-// A function, so that its caller has no branch.
+// Functions, so that their callers have no branch.
+pub fn both(a: bool, b: bool) -> bool
+    ensures both { λ r. ⌜ r ≡ (a && b) ⌝ }
+{
+    if a { b } else { false }
+}
+
 pub fn either(a: bool, b: bool) -> bool
     ensures either { λ r. ⌜ r ≡ (a || b) ⌝ }
 {

@@ -1,19 +1,31 @@
 -- What the functions of the library for other languages promise: the answers of the readings and of the checker, as numbers.
 -- Assumes nothing.
 use mathlib.Core.Path.{_≡_}
-use Prim.Native.Nat.{ℕ}
+use Prim.Native.Nat.{ℕ, suc, _+_, _<_}
+use mathlib.Core.Bool.{cond}
 use mathlib.Core.List.{List, [], _∷_}
+use mathlib.Core.Option.{Option, some}
+use mathlib.Core.Option as Option
+use lib.ListN.{getD}
+use Rattle.words.specs.Sets.{hasBit}
+use Rattle.traces.specs.Fields.{fieldFrom, fieldAt}
+use Rattle.traces.specs.Code.Marks.{Marks}
+use Rattle.fields.specs.declared.Prepared.{Prepared}
+use Rattle.fields.specs.Cuts.{Lent}
+use Rattle.fields.specs.Cuts as Fields
 use Rattle.theory.specs.Pattern.{Re}
 use Rattle.theory.specs.Spans.{nowhere, span, greedy, posix}
 use Rattle.matchers.specs.Tables.{Tables, Ready}
 use Rattle.reader.specs.declared.Answer.{Answer}
 use Rattle.reader.specs.declared.Answer.the-variants.{Accepted, Refused}
-use Rattle.readings.specs.Tables.{Prepared}
+use Rattle.readings.specs.Tables as Readings
 use Rattle.checker.specs.declared.Verdict.{Verdict}
 use Rattle.checker.specs.declared.Verdict.the-variants.{Alike, Unlike}
 use Rattle.checker.specs.declared.Verdict.the-variants as Verdicts
 use Rattle.checker.specs.Verdicts.{Checks}
 use Rattle.yindorka.specs.declared.Refusal.{Refusal}
+use Rattle.yindorka.specs.declared.FieldsRefusal.{FieldsRefusal}
+use Rattle.yindorka.specs.declared.Spanned.{Spanned}
 use Rattle.yindorka.specs.declared.Outcome.{Outcome}
 
 -- Number 0: the pattern is accepted. Else it is refused with number and place.
@@ -24,7 +36,7 @@ refusalOf (Refused n k) = record { number = n; place = k }
 -- The tables are an accepted pattern's own, or they are kept.
 pub record Prepares (p : List ℕ) (old : Tables) (r : Refusal) (new : Tables) : Type 0 where
   pub answer : Answer
-  pub prepared : Prepared p old answer new
+  pub prepared : Readings.Prepared p old answer new
   pub means : r ≡ refusalOf answer
 
 -- 1: both spans begin at the first number, the greedy one ends at the second and the POSIX one at the third. 0: neither is there, and the numbers are kept.
@@ -35,6 +47,29 @@ pub data CutTo (r : Re) (w old : List ℕ) : ℕ → List ℕ → Type 0 where
 -- For the pattern of which the tables are.
 pub record Cuts (t : Tables) (w old : List ℕ) (x : ℕ) (new : List ℕ) : Type 0 where
   pub cut : {r : Re} → Ready r t → CutTo r w old x new
+
+-- The same for fields, with their number.
+abbrev pub fieldsRefusalOf : Prepared → FieldsRefusal
+fieldsRefusalOf x = record { number = refusalOf (x .answer) .number; place = refusalOf (x .answer) .place; count = x .count }
+
+pub record PreparesFields (p : List ℕ) (old : Lent) (r : FieldsRefusal) (new : Lent) : Type 0 where
+  pub answer : Prepared
+  pub prepared : Fields.Prepares p old answer new
+  pub means : r ≡ fieldsRefusalOf answer
+
+-- Found 1: the greedy span's start and end; place f is the start of the field f + 1 and place 8 + f its end, each if its bit is set, and the field is absent without
+-- them. Found 0: there is none, and the places are kept.
+abbrev pub placeAt : ℕ → List ℕ → ℕ → Option ℕ
+placeAt known places j = cond (hasBit known j) (some (getD places j 0)) Option.none
+
+pub data FieldsTo (r : Re) (w old : List ℕ) : Spanned → List ℕ → Type 0 where
+  spanned : {i k m : ℕ} {new : List ℕ} → greedy r w ≡ span i k → ((f : ℕ) → f < 8 → fieldFrom (placeAt m new f) (placeAt m new (8 + f)) ≡ fieldAt r w (suc f))
+      → FieldsTo r w old (record { found = 1; start = i; end = k; known = m }) new
+  nothing : greedy r w ≡ nowhere → FieldsTo r w old (record { found = 0; start = 0; end = 0; known = 0 }) old
+
+-- For the pattern of which the tables and masks are.
+pub record CutsFields (t : Lent) (w old : List ℕ) (x : Spanned) (new : List ℕ) : Type 0 where
+  pub cut : {r : Re} → Ready r (t .tables) → Marks r (t .marks) → FieldsTo r w old x new
 
 -- Kind 0: alike with the record count. 1: unlike with the count and the witness's length. 2: refused with number and place.
 abbrev pub outcomeOf : Verdict → Outcome

@@ -1,7 +1,8 @@
-// The library for other languages: a pattern's tables, both spans of a line by them, and the checker. No function keeps a state, allocates or fails: a pattern that is no pattern is refused.
+// The library for other languages: a pattern's tables, both spans of a line by them, the fields of its greedy span, and the checker. No function keeps a state, allocates or fails: a pattern that is no pattern is refused.
 ghost use mathlib.Core.Path.{_≡_};
 ghost use Rattle.matchers.specs.Tables.{tables};
-ghost use Rattle.yindorka.specs.Calls.{refusalOf, Prepares, Cuts, Decided, outcomeOf};
+ghost use Rattle.fields.specs.Cuts.{lent};
+ghost use Rattle.yindorka.specs.Calls.{refusalOf, Prepares, Cuts, PreparesFields, CutsFields, Decided, outcomeOf};
 use checker::Verdict;
 use matchers::Spans;
 use reader::Answer;
@@ -11,6 +12,23 @@ use reader::Answer;
 pub struct Refusal {
     pub number: usize,
     pub place: usize,
+}
+
+// Number 0 for an accepted pattern, with how many fields it has; else paper 01's number or 12, and the place.
+#[repr(C)]
+pub struct FieldsRefusal {
+    pub number: usize,
+    pub place: usize,
+    pub count: usize,
+}
+
+// The greedy span if `found` is 1; bit f - 1 of `known` if its field f has a start, bit f + 7 if it has an end.
+#[repr(C)]
+pub struct Spanned {
+    pub found: usize,
+    pub start: usize,
+    pub end: usize,
+    pub known: usize,
 }
 
 // Kind 0, alike: the count. Kind 1, unlike: the count and the witness's length. Kind 2, refused: number and place.
@@ -84,6 +102,69 @@ pub extern "C" fn yindorka_cut<'a>(
     1
 }
 
+// Reads a pattern and fills its tables and the masks of its fields, which then serve any number of lines. A refused pattern leaves them as they are.
+#[no_mangle]
+pub extern "C" fn yindorka_prepare_fields(
+    pattern: &[u8],
+    masks: &mut [u64; 256],
+    rows: &mut [u8; 4225],
+    lens: &mut [u8; 65],
+    sets: &mut [u64; 65],
+    ends: &mut [u8; 65],
+    next: &mut [u64; 257],
+    hows: &mut [u8; 10],
+    marks: &mut [u16; 4225],
+) -> FieldsRefusal
+    ensures prepared { λ r. ⌜ PreparesFields (now (pattern .entry))
+        (lent (tables (now (masks .entry)) (now (rows .entry)) (now (lens .entry)) (now (sets .entry)) (now (ends .entry)) (now (next .entry)) (now (hows .entry))) (now (marks .entry))) r
+        (lent (tables (now (masks .exit)) (now (rows .exit)) (now (lens .exit)) (now (sets .exit)) (now (ends .exit)) (now (next .exit)) (now (hows .exit))) (now (marks .exit))) ⌝ }
+{
+    let ready = fields::prepare(pattern, masks, rows, lens, sets, ends, next, hows, marks);
+    let answer = ready.answer;
+    let refusal = refusal_of(answer);
+    FieldsRefusal {
+        number: refusal.number,
+        place: refusal.place,
+        count: ready.count,
+    }
+}
+
+// The greedy span of a line of any length with its fields: field f begins at places[f - 1] and ends at places[f + 7]. Without a span the places are kept.
+#[no_mangle]
+pub extern "C" fn yindorka_cut_fields<'a>(
+    line: &'a [u8],
+    masks: &'a [u64; 256],
+    rows: &'a [u8; 4225],
+    lens: &'a [u8; 65],
+    sets: &'a [u64; 65],
+    ends: &'a [u8; 65],
+    next: &'a [u64; 257],
+    hows: &'a [u8; 10],
+    marks: &'a [u16; 4225],
+    places: &mut [usize; 16],
+) -> Spanned
+    ensures cuts { λ r. ⌜ CutsFields (lent (tables (now (masks .entry)) (now (rows .entry)) (now (lens .entry)) (now (sets .entry)) (now (ends .entry)) (now (next .entry)) (now (hows .entry))) (now (marks .entry)))
+        (now (line .entry)) (now (places .entry)) r (now (places .exit)) ⌝ }
+{
+    let x = fields::cut(line, masks, rows, lens, sets, ends, next, hows, marks);
+    if x.found != 1 {
+        return Spanned {
+            found: 0,
+            start: 0,
+            end: 0,
+            known: 0,
+        };
+    }
+    let own = x.places;
+    *places = own;
+    Spanned {
+        found: 1,
+        start: x.start,
+        end: x.end,
+        known: words::wide_u16(x.known),
+    }
+}
+
 fn numbers_of(x: Verdict) -> Outcome
     ensures { λ r. ⌜ r ≡ outcomeOf x ⌝ }
 {
@@ -114,10 +195,10 @@ pub extern "C" fn yindorka_check(pattern: &[u8], table: &mut [u8], witness: &mut
     numbers_of(checker::check(pattern, table, witness))
 }
 
-// The version of the library: 10100 is 1.1.0.
+// The version of the library: 10200 is 1.2.0.
 #[no_mangle]
 pub extern "C" fn yindorka_version() -> u32
-    ensures version { λ r. ⌜ r ≡ 10100 ⌝ }
+    ensures version { λ r. ⌜ r ≡ 10200 ⌝ }
 {
-    10100
+    10200
 }

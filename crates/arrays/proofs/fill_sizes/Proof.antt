@@ -4,6 +4,7 @@ use Prim.Native.Nat.{_≤_, _<_, _-_}
 use mathlib.Core.Path.{_≡_, _∙_}
 use native.Mathlib.Omega.{arith}
 use lib.ListN.{length, length-set}
+use Rattle.grammar.specs.Code.Tokens.{maxParts}
 use Rattle.arrays.specs.Passes.{Sized, Small}
 use Rattle.arrays.proofs.Sizes.{sized-turn, small-turn}
 use borrow.Author.Needs.{needs}
@@ -11,7 +12,7 @@ use Rattle.arrays.proofs.fill_sizes.Statement.{statement}
 use Rattle.arrays.proofs.fill_sizes.Tie as tie
 
 abbrev Inv-loop : tie.InvT-loop
-Inv-loop kinds n sizes₀ i₀ sizes i = (i ≤ n) × Sized kinds i sizes × Small sizes i × (length sizes ≡ 2303)
+Inv-loop kinds n sizes₀ i₀ sizes i = (i ≤ n) × Sized kinds i sizes × Small sizes i × (length sizes ≡ maxParts)
 
 abbrev μ-loop : tie.MeasureT-loop
 μ-loop kinds n sizes₀ i₀ sizes i = n - i

@@ -8,15 +8,32 @@ use Rattle.follow.proofs.append.Statement.{statement}
 use Rattle.follow.proofs.append.Tie as tie
 
 element-write-r : tie.Need-element-write-r
-element-write-r c = let a = c .args in fits (a .x) (a .p) (c .pre .0) (c .pre .1) (c .pre .2)
+element-write-r c = let s = c .before in fits (s .args .x) (s .args .p) (s .pre .0) (s .pre .1) (s .pre .2)
 
 returns : tie.Need-returns
-returns c = let a = c .before .args in let h = c .before .pre in append-end (a .x) (a .p) (h .0) (h .1) (h .2) (c .if1 .taken)
+returns c =
+    let s = c .before .before in
+    let a = s .args in
+    rw (c .before .wide .ensures .0) (append-end (a .x) (a .p) (s .pre .0) (s .pre .1) (s .pre .2) (a .marks) (c .if1 .taken))
 
 returns-2 : tie.Need-returns-2
-returns-2 c = let a = c .before .before .before .args in let h = c .before .before .before .pre in append-leaf (a .x) (a .p) (h .0) (h .1) (h .2) (c .before .wide .result - 1) (c .with .result) (omega arith) (c .with .ensures)
+returns-2 c =
+    let s = c .before .before .before .before in
+    let a = s .args in
+    rw (c .before .before .before .wide .ensures .0)
+    (append-leaf (a .x) (a .p) (s .pre .0) (s .pre .1) (s .pre .2) (a .marks) (c .before .wide2 .result - 1) (c .with .result) (omega arith) (c .with .ensures))
 
 pub append-spec : {M : Type 1} → statement M
 append-spec =
     tie.close
-    (tie.spec element-write-r (λ c. search needs) returns (λ c κs. search needs) (λ c. search needs) (λ c κs. search needs) returns-2)
+    (tie.spec
+    (λ c κs. search needs)
+    element-write-r
+    (λ c. search needs)
+    (λ c. search needs)
+    (λ c. search needs)
+    returns
+    (λ c κs. search needs)
+    (λ c. search needs)
+    (λ c κs. search needs)
+    returns-2)

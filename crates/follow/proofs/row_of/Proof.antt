@@ -8,10 +8,15 @@ use Rattle.follow.proofs.row_of.Statement.{statement}
 use Rattle.follow.proofs.row_of.Tie as tie
 
 returns : tie.Need-returns
-returns c = let a = c .before .before .before .before .args in row-start (a .kinds .now) (a .sizes .now) (a .end) (c .before .before .ending .result) (c .before .none .result) (c .closure .result) (c .before .before .ending .ensures) (c .before .none .ensures) (a .k) (c .before .before .before .if1 .taken) (c .closure .ensures)
+returns c =
+    let c3 = c .before .before .before in
+    row-start (c .before .before .ending .ensures) (c .before .none .ensures) (c3 .before .args .k) (c3 .if1 .taken) (c .closure .ensures)
 
 returns-2 : tie.Need-returns-2
-returns-2 c = let a = c .before .before .before .before .args in row-after (a .kinds .now) (a .sizes .now) (a .end) (c .before .before .ending2 .result) (c .before .none2 .result) (c .after .result) (c .before .before .ending2 .ensures) (c .before .none2 .ensures) (a .k) (a .k - 1) (omega (arith, c .before .before .before .if1 .left)) (c .after .ensures)
+returns-2 c =
+    let c3 = c .before .before .before in
+    let k = c3 .before .args .k in
+    row-after (c .before .before .ending2 .ensures) (c .before .none2 .ensures) k (k - 1) (omega (arith, c3 .if1 .left)) (c .after .ensures)
 
 pub row-of-spec : {M : Type 1} → statement M
 row-of-spec =

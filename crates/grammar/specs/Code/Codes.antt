@@ -1,18 +1,19 @@
 -- The kinds of parts as numbers, as an array holds them, and the codes of a pattern while it is read: the kinds of its parts, each leaf's with the place q of the
 -- pattern at which its text begins.
 -- Assumes nothing.
-use Prim.Native.Nat.{ℕ, zero, suc}
-use mathlib.Core.Bool.{Bool, false, not, _&&_}
+use Prim.Native.Nat.{ℕ, zero, suc, _-_}
+use mathlib.Core.Bool.{Bool, false, not, _&&_, cond}
 use mathlib.Core.List.{List, [], _∷_, _++_}
 use lib.ListN.{drop, replicate}
 use lib.Dec.{eqb, ltb}
 use Rattle.grammar.specs.Grammar.{Atom, byte, dot, class, group, Kind, ordinary, backslash, bar, opener, closer, bracket, brace, period, stray, sign, kind}
 use Rattle.grammar.specs.Sets.{inClass}
+use Rattle.grammar.specs.Brackets.{maxFields}
 use Rattle.grammar.specs.Code.Reader.{Parsed, found, missing, readClass}
 use Rattle.grammar.specs.Code.Tokens.{Token, nil, both, or, many, blocks}
 use Rattle.grammar.specs.Code.Tokens
 
--- The kinds of parts: the empty sequence, a sequence of two parts, an alternation of two, a star; the kinds of leaves come after them.
+-- The kinds of parts: the empty sequence, a sequence of two parts, an alternation of two, a star, the eight fields; the kinds of leaves come after them.
 abbrev pub emptyKind : ℕ
 emptyKind = 0
 
@@ -25,19 +26,22 @@ alternationKind = 2
 abbrev pub starKind : ℕ
 starKind = 3
 
+abbrev pub firstField : ℕ
+firstField = 4
+
 abbrev pub firstLeaf : ℕ
-firstLeaf = 4
+firstLeaf = 12
 
 pub data PartKind : Type 0 where
   anEmpty aSequence anAlternation aStar : PartKind
-  aLeaf : ℕ → PartKind
+  aField aLeaf : ℕ → PartKind
 
 abbrev pub partKind : ℕ → PartKind
 partKind zero = anEmpty
 partKind (suc zero) = aSequence
 partKind (suc (suc zero)) = anAlternation
 partKind (suc (suc (suc zero))) = aStar
-partKind (suc (suc (suc (suc q)))) = aLeaf q
+partKind (suc (suc (suc (suc q)))) = cond (ltb q maxFields) (aField (suc q)) (aLeaf (q - maxFields))
 
 -- The set of a class that was found, of a byte after `\`, and of the leaf that the text begins with. What is no leaf holds nothing.
 abbrev pub foundHolds : Parsed Atom → ℕ → Bool
@@ -73,6 +77,7 @@ tokenBy p anEmpty = nil
 tokenBy p aSequence = both
 tokenBy p anAlternation = or
 tokenBy p aStar = many
+tokenBy p (aField f) = Tokens.field f
 tokenBy p (aLeaf q) = Tokens.byte 0 (λ b. ltb b 256 && leafHolds (drop q p) b)
 
 abbrev pub tokenOf : List ℕ → ℕ → Token

@@ -4,6 +4,7 @@ use Prim.Native.Nat.{ℕ, zero, suc, _+_}
 use mathlib.Core.Bool.{Bool}
 use mathlib.Core.List.{List, [], _∷_, _++_}
 use Rattle.theory.specs.Pattern.{Re, empty, leaf, seq, alt, star}
+use Rattle.theory.specs.Pattern
 
 -- How many parts a pattern has, itself included: as many as tokens.
 unfoldable pub nodes : Re → ℕ
@@ -12,14 +13,16 @@ nodes (leaf p s) = 1
 nodes (seq x y) = suc (nodes x + nodes y)
 nodes (alt x y) = suc (nodes x + nodes y)
 nodes (star x) = suc (nodes x)
+nodes (Pattern.field f x) = suc (nodes x)
 
--- No pattern within the limits has more parts (`nodes-2303`), and one has as many.
+-- No pattern within the limits has more parts (`nodes-within`).
 abbrev pub maxParts : ℕ
-maxParts = 2303
+maxParts = 2815
 
 pub data Token : Type 0 where
   nil both or many : Token
   byte : ℕ → (ℕ → Bool) → Token
+  field : ℕ → Token
 
 unfoldable pub tokens : Re → List Token
 tokens empty = nil ∷ []
@@ -27,6 +30,7 @@ tokens (leaf p s) = byte p s ∷ []
 tokens (seq x y) = tokens x ++ (tokens y ++ (both ∷ []))
 tokens (alt x y) = tokens x ++ (tokens y ++ (or ∷ []))
 tokens (star x) = tokens x ++ (many ∷ [])
+tokens (Pattern.field f x) = tokens x ++ (field f ∷ [])
 
 -- Read back with a stack.
 unfoldable pub decode : List Token → List Re → List Re
@@ -41,6 +45,8 @@ decode (or ∷ l) (y ∷ []) = []
 decode (or ∷ l) (y ∷ x ∷ k) = decode l (alt x y ∷ k)
 decode (many ∷ l) [] = []
 decode (many ∷ l) (x ∷ k) = decode l (star x ∷ k)
+decode (field f ∷ l) [] = []
+decode (field f ∷ l) (x ∷ k) = decode l (Pattern.field f x ∷ k)
 
 -- The leaves numbered from n on, left to right: one pass over the tokens.
 unfoldable pub renumber : ℕ → List Token → List Token
@@ -49,6 +55,7 @@ renumber n (nil ∷ l) = nil ∷ renumber n l
 renumber n (both ∷ l) = both ∷ renumber n l
 renumber n (or ∷ l) = or ∷ renumber n l
 renumber n (many ∷ l) = many ∷ renumber n l
+renumber n (field f ∷ l) = field f ∷ renumber n l
 renumber n (byte p s ∷ l) = byte n s ∷ renumber (suc n) l
 
 -- How many leaves.
@@ -58,6 +65,7 @@ leafs (nil ∷ l) = leafs l
 leafs (both ∷ l) = leafs l
 leafs (or ∷ l) = leafs l
 leafs (many ∷ l) = leafs l
+leafs (field f ∷ l) = leafs l
 leafs (byte p s ∷ l) = suc (leafs l)
 
 -- n copies of a block, then z: how a repeat is written.

@@ -1,19 +1,19 @@
--- `orders::answer` meets its contract: the line's length and its spans decide.
+-- `orders::answer` meets its contract: the line's length decides, and what is asked for.
 -- Assumes nothing.
 use native.Mathlib.Omega.{arith}
 use borrow.Author.Needs.{needs}
-use Rattle.orders.proofs.Ordering.{answered-long, answered-none, answered-cut}
+use Rattle.orders.proofs.Ordering.{answered-long, asked-fields, asked-spans}
 use Rattle.orders.proofs.answer.Statement.{statement}
 use Rattle.orders.proofs.answer.Tie as tie
 
 returns : tie.Need-returns
-returns c = answered-long (omega arith) (c .refused .ensures)
+returns c = answered-long _ (omega arith) (c .refused .ensures)
 
 returns-2 : tie.Need-returns-2
-returns-2 c = answered-none (omega arith) (c .before .before .before .before .cut .ensures) (c .before .before .enum-told .given .1) (c .none .ensures)
+returns-2 c = asked-fields _ (c .before .before .if2 .taken) (c .answer-fields .ensures)
 
 returns-3 : tie.Need-returns-3
-returns-3 c = answered-cut (omega arith) (c .before .before .before .before .before .cut .ensures) (c .before .before .before .spans .given .1) (c .spans2 .ensures)
+returns-3 c = asked-spans _ (c .before .before .if2 .left) (c .answer-spans .ensures)
 
 pub answer-spec : {M : Type 1} → statement M
 answer-spec =
@@ -21,9 +21,6 @@ answer-spec =
     (tie.spec
     (λ c κs. search needs)
     returns
-    (λ c κs. search needs)
-    (λ c. search needs)
-    (λ c. search needs)
     (λ c κs. search needs)
     returns-2
     (λ c κs. search needs)

@@ -7,16 +7,19 @@ use borrow.Author.Needs.{needs}
 use borrow.Author.Tests.{leb-true, leb-false}
 use Prim.Native.Nat.{_+_, _-_}
 use Rattle.matchers.specs.Tables.{tables}
+use Rattle.fields.specs.Cuts.{lent}
+use Rattle.orders.specs.Orders.{askedBy}
 use Rattle.lines.proofs.Serving.{at-its-end}
 use Rattle.orders.proofs.Ordering.{OrdersServing, orders-first, orders-next, orders-part, orders-served}
 use Rattle.orders.proofs.answer_lines.Statement.{statement}
 use Rattle.orders.proofs.answer_lines.Tie as tie
 
 abbrev Inv-loop : tie.InvT-loop
-Inv-loop chunk line₀ out₀ masks rows lens sets ends next hows s₀ line out s = OrdersServing (tables masks rows lens sets ends next hows) chunk line₀ out₀ s₀ line out s
+Inv-loop chunk line₀ out₀ brackets count masks rows lens sets ends next hows marks s₀ line out s =
+    OrdersServing (askedBy brackets count) (lent (tables masks rows lens sets ends next hows) marks) chunk line₀ out₀ s₀ line out s
 
 abbrev μ-loop : tie.MeasureT-loop
-μ-loop chunk line₀ out₀ masks rows lens sets ends next hows s₀ line out s = s .end - s .at
+μ-loop chunk line₀ out₀ brackets count masks rows lens sets ends next hows marks s₀ line out s = s .end - s .at
 
 loop-holds : tie.Need-loop-holds Inv-loop μ-loop
 loop-holds c = orders-first
@@ -29,7 +32,7 @@ loop-again c =
     let c5 = c .before .before .before .before .before in
     let l = c5 .before .before .before .before .before .before .before .loop in
     let n = c5 .before .next-line .ensures in
-    let room = leb-true (l .s .used + 97) 65536 (sym (c5 .before .before .before .before .has-room .ensures) ∙ c5 .before .before .before .if2 .taken) in
+    let room = leb-true (l .s .used + 392) 65536 (sym (c5 .before .before .before .before .has-room .ensures) ∙ c5 .before .before .before .if2 .taken) in
     orders-next (l .inv) n (c5 .if3 .taken) (rw (c .before .before .first-of .ensures) at (c .answer .ensures)) (omega (arith, room, n .used))
 
 loop-less-2 : tie.Need-loop-less-2 Inv-loop μ-loop
@@ -42,7 +45,7 @@ loop-again-2 c =
 returns : tie.Need-returns Inv-loop μ-loop
 returns c =
     let l = c .before .before .before .before .loop in
-    orders-served (l .inv) (inr (leb-false (l .s .used + 97) 65536 (sym (c .before .has-room .ensures) ∙ c .if2 .left)))
+    orders-served (l .inv) (inr (leb-false (l .s .used + 392) 65536 (sym (c .before .has-room .ensures) ∙ c .if2 .left)))
 
 returns-2 : tie.Need-returns-2 Inv-loop μ-loop
 returns-2 c =

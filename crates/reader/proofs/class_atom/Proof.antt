@@ -29,7 +29,7 @@ returns-2 : tie.Need-returns-2
 returns-2 c =
     let c4 = c .before .before .before .before in
     let c8 = c4 .before .before .before .before in
-    rw (c .found .ensures) (found-part (let (a, f, o) = class-ends _ _ _ (c4 .class .given .1) (c4 .before .before .read-class .ensures) in class-here (c8 .pre .0) (c8 .pre .1) (c .before .push-leaf .ensures) a (c8 .pre .2) f o))
+    rw (c .found .ensures) (found-part (let (a, f, o) = class-ends _ _ _ (c4 .class .given .1) (c4 .before .before .read-class .ensures) in λ g. class-here (c8 .pre .0) (c8 .pre .1) (c .before .push-leaf .ensures) g a (c8 .pre .2) f o))
 
 pub class-atom-spec : {M : Type 1} → statement M
 class-atom-spec =

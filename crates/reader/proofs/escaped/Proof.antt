@@ -26,7 +26,7 @@ returns-2 c =
     let c3 = c .before .before .before in
     let c6 = c3 .before .before .before in
     let c8 = c6 .before .before in
-    rw (c .found .ensures) (found-part (escaped-here (c8 .pre .0) (c8 .pre .1) (c .before .push-leaf .ensures) (c8 .pre .2) (c6 .if1 .left) (sym (c3 .if2 .taken) ∙ c3 .before .is-special .ensures)))
+    rw (c .found .ensures) (found-part (λ g. escaped-here (c8 .pre .0) (c8 .pre .1) (c .before .push-leaf .ensures) g (c8 .pre .2) (c6 .if1 .left) (sym (c3 .if2 .taken) ∙ c3 .before .is-special .ensures)))
 
 returns-3 : tie.Need-returns-3
 returns-3 c =

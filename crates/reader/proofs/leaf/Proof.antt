@@ -18,7 +18,7 @@ use Rattle.reader.proofs.refused.Reads as refused-reads
 use Rattle.scanner.proofs.is_special.Reads as is-special-reads
 
 returns-3 : tie.Need-returns-3
-returns-3 c = rw (c .found .ensures) (found-part (dot-here (c .before .before .before .before .before .before .before .before .pre .0) (c .before .before .before .before .before .before .before .before .pre .1 .before) (c .before .push-leaf .ensures) (c .before .before .before .if3 .taken)))
+returns-3 c = rw (c .found .ensures) (found-part (λ g. dot-here (c .before .before .before .before .before .before .before .before .pre .0) (c .before .before .before .before .before .before .before .before .pre .1 .before) (c .before .push-leaf .ensures) g (c .before .before .before .if3 .taken)))
 
 returns-4 : tie.Need-returns-4
 returns-4 c =
@@ -30,7 +30,7 @@ returns-5 : tie.Need-returns-5
 returns-5 c =
     let c3 = c .before .before .before in
     let c10 = c3 .before .before .before .before .before .before .before in
-    rw (c .found2 .ensures) (found-part (plain-here (c10 .pre .0) (c10 .pre .1 .before) (c .before .push-leaf2 .ensures) (sym (c3 .if4 .left) ∙ c3 .before .is-special .ensures)))
+    rw (c .found2 .ensures) (found-part (λ g. plain-here (c10 .pre .0) (c10 .pre .1 .before) (c .before .push-leaf2 .ensures) g (sym (c3 .if4 .left) ∙ c3 .before .is-special .ensures)))
 
 pub leaf-spec : {M : Type 1} → statement M
 leaf-spec =

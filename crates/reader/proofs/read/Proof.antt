@@ -1,10 +1,9 @@
 -- `read` hands over what is right: what the alternation from the start finds, judged, with the arrays made of its codes.
 -- Assumes nothing.
-use mathlib.Core.Path.{_≡_, sym, _∙_}
-use Prim.Native.Nat.{ℕ}
+use mathlib.Core.Path.{refl}
 use native.Mathlib.Omega.{arith}
 use Rattle.reader.proofs.Begins.{begun-start}
-use Rattle.reader.proofs.Border.{read-long, read-right}
+use Rattle.reader.proofs.Border.{read-long, read-right, not-both}
 use borrow.Author.Needs.{needs}
 use Rattle.reader.proofs.read.Statement.{statement}
 use Rattle.reader.proofs.read.Tie as tie
@@ -16,27 +15,36 @@ use Rattle.arrays.proofs.finish.Reads as finish-reads
 use Rattle.reader.proofs.judged.Reads as judged-reads
 
 returns : tie.Need-returns
-returns c = read-long _ _ (c .before .if1 .taken) (c .empty .ensures)
+returns c = read-long _ _ (c .before .before .if1 .taken) (c .before .empty .ensures) _ (c .no-brackets .ensures)
 
 alternation-requires : tie.Need-alternation-requires
-alternation-requires c κs = begun-start _ (omega arith)
+alternation-requires c κs = (begun-start _ (omega arith), rw (c .no-brackets2 .ensures) (omega arith))
 
 returns-2 : tie.Need-returns-2
-returns-2 c = read-right (omega arith) _ _ (c .before .before .before .before .alternation .ensures) (c .before .before .before .judged .ensures) (λ e. absurd (let z : _≡_ {A = ℕ} 0 1 = cc in omega arith)) (λ n q e. c .empty2 .ensures)
+returns-2 c =
+    let c4 = c .before .before .before .before in
+    read-right (omega arith) _ _ _ (rw (c4 .before .before .no-brackets2 .ensures) at (c4 .before .alternation .ensures)) (c4 .judged .ensures)
+    (λ e. not-both (c .before .before .enum-told2 .given .1) e) (λ e. not-both (c .before .before .enum-told2 .given .1) e) (λ n q e. c .before .empty2 .ensures) (λ n q e. c .no-brackets3 .ensures)
 
 returns-3 : tie.Need-returns-3
-returns-3 c = read-right (omega arith) _ _ (c .before .before .before .before .before .alternation .ensures) (c .before .before .before .before .judged .ensures) (λ e. c .finish .ensures) (λ n q e. absurd (let z : _≡_ {A = ℕ} 0 1 = cc in omega arith))
+returns-3 c =
+    let c5 = c .before .before .before .before .before in
+    read-right (omega arith) _ _ _ (rw (c5 .before .before .no-brackets2 .ensures) at (c5 .before .alternation .ensures)) (c5 .judged .ensures)
+    (λ e. c .finish .ensures) (λ e. refl) (λ n q e. not-both e (c .before .before .before .enum-told .given .1)) (λ n q e. not-both e (c .before .before .before .enum-told .given .1))
 
 pub read-spec : {M : Type 1} → statement M
 read-spec =
     tie.close
     (tie.spec
     (λ c κs. search needs)
+    (λ c κs. search needs)
     returns
+    (λ c κs. search needs)
     alternation-requires
     (λ c κs. search needs)
     (λ c. search needs)
     (λ c. search needs)
+    (λ c κs. search needs)
     (λ c κs. search needs)
     returns-2
     (λ c κs. search needs)

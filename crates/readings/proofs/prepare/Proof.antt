@@ -10,9 +10,8 @@ returns c = prepared-refused (c .before .before .read .ensures) (c .enum-told2 .
 
 returns-2 : tie.Need-returns-2
 returns-2 c =
-    let f = c .before .before in
-    let t = f .before .before .before .before .before .before .before .before in
-    prepared-ready (t .before .before .before .before .before .read .ensures) (t .before .before .before .enum-told .given .1) (t .tables-of .ensures) (f .facts-of .ensures)
+    let t = c .before .before .before .before .before .before .before .before .before in
+    prepared-ready (t .before .before .read .ensures) (t .enum-told .given .1) (c .fill .ensures)
 
 pub prepare-spec : {M : Type 1} → statement M
 prepare-spec =
@@ -22,6 +21,5 @@ prepare-spec =
     (λ c. search needs)
     (λ c. search needs)
     returns
-    (λ c κs. search needs)
     (λ c κs. search needs)
     returns-2)

@@ -5,7 +5,7 @@ use Prim.Native.Nat.{ℕ, zero, suc}
 use mathlib.Core.Bool.{cond}
 use mathlib.Core.List.{List, [], _∷_, _++_}
 use lib.Dec.{eqb}
-use Rattle.theory.specs.Pattern.{Re, empty, leaf, seq, alt, star, has}
+use Rattle.theory.specs.Pattern.{Re, empty, leaf, seq, alt, star, field, has}
 use Rattle.theory.specs.Outcomes.{endsAt, wants}
 use Rattle.theory.specs.Standing.{once}
 use Rattle.theory.specs.Code.Follow.{Next}
@@ -39,6 +39,7 @@ closure (leaf p s) = suc p ∷ []
 closure (seq x y) = once (splice (closure y) (closure x))
 closure (alt x y) = once (closure x ++ closure y)
 closure (star x) = once (closure x ++ (0 ∷ []))
+closure (field f x) = closure x
 
 -- The same right after the leaf p took a byte.
 unfoldable pub closureAfter : Re → ℕ → List ℕ
@@ -47,6 +48,7 @@ closureAfter (leaf q s) p = cond (eqb p q) (0 ∷ []) []
 closureAfter (seq x y) p = once (splice (closure y) (closureAfter x p) ++ closureAfter y p)
 closureAfter (alt x y) p = once (closureAfter x p ++ closureAfter y p)
 closureAfter (star x) p = once (splice (closure (star x)) (closureAfter x p))
+closureAfter (field f x) p = closureAfter x p
 
 -- What a byte makes of a list of leaves.
 abbrev pub takes : Re → ℕ → ℕ → List ℕ

@@ -4,7 +4,7 @@ use Prim.Native.Nat.{ℕ}
 use mathlib.Core.List.{List, [], _∷_, _++_}
 use mathlib.Core.Bool.{Bool, true, false}
 use lib.Dec.{eqb}
-use Rattle.theory.specs.Pattern.{Re, empty, leaf, seq, alt, star, has}
+use Rattle.theory.specs.Pattern.{Re, empty, leaf, seq, alt, star, field, has}
 use Rattle.theory.specs.Outcomes.{Outcome, endsAt, wants, want, andThen, when, emptyTurn, thenLeave}
 
 -- An outcome at the line's end: `wants p`, or `here`.
@@ -21,6 +21,7 @@ start (leaf p s) = want p
 start (seq x y) = andThen (start x) (λ _. start y)
 start (alt x y) = start x ++ start y
 start (star x) = thenLeave (andThen (start x) emptyTurn) tt
+start (field f x) = start x
 
 -- The list of a part at the line's end right after its leaf p took the last byte. A part without that leaf has none.
 unfoldable pub follow : Re → ℕ → List Next
@@ -30,6 +31,7 @@ follow (leaf q s) p = when (eqb p q) (here ∷ [])
 follow (seq x y) p = andThen (follow x p) (λ _. start y) ++ follow y p
 follow (alt x y) p = follow x p ++ follow y p
 follow (star x) p = andThen (follow x p) (λ _. start (star x))
+follow (field f x) p = follow x p
 
 -- What becomes of `wants p` when the line grows by b.
 abbrev pub after : Re → ℕ → ℕ → List Next

@@ -8,7 +8,7 @@ use Rattle.words.proofs.with.Statement.{statement}
 use Rattle.words.proofs.with.Tie as tie
 
 returns : tie.Need-returns
-returns c = let p = c .before .args .p in rw (lt-ltb p 64 (omega arith), shifted p (omega arith))
+returns c = let p = c .before .args .p in rw (lt-ltb p 64 (omega arith), shifted 64 p (omega arith))
 
 returns-2 : tie.Need-returns-2
 returns-2 c = rw (le-ltb (c .before .args .p) 64 (omega arith))

@@ -1,16 +1,16 @@
--- `match_lines::run` meets its contract. The invariant: nothing waits. The measure is the turns left.
+-- `orders::run` meets its contract. The invariant: nothing waits. The measure is the turns left.
 -- Assumes nothing.
 use mathlib.Core.Path.{_≡_, refl}
 use borrow.Author.Needs.{needs}
 use Rattle.lines.proofs.Exchanging.{nothing-waits, at-the-end}
-use Rattle.match_lines.proofs.run.Statement.{statement}
-use Rattle.match_lines.proofs.run.Tie as tie
+use Rattle.orders.proofs.run.Statement.{statement}
+use Rattle.orders.proofs.run.Tie as tie
 
 abbrev Inv-loop : tie.InvT-loop
-Inv-loop chunk₀ line₀ out₀ masks rows lens sets ends next hows s₀ turns₀ chunk line out s turns = s .used ≡ 0
+Inv-loop chunk₀ line₀ out₀ brackets count masks rows lens sets ends next hows marks s₀ turns₀ chunk line out s turns = s .used ≡ 0
 
 abbrev μ-loop : tie.MeasureT-loop
-μ-loop chunk₀ line₀ out₀ masks rows lens sets ends next hows s₀ turns₀ chunk line out s turns = turns
+μ-loop chunk₀ line₀ out₀ brackets count masks rows lens sets ends next hows marks s₀ turns₀ chunk line out s turns = turns
 
 loop-holds : tie.Need-loop-holds Inv-loop μ-loop
 loop-holds c = refl

@@ -1,0 +1,88 @@
+// Answers what the front end asks. The first word of the input says what; after it and a space come a pattern line and order lines, as for `match_lines`.
+// 'fields': for each order line the greedy span with its fields, 'none' or a refusal (request 2). A refused pattern prints its refusal only, another word 'unknown'.
+// Lines may have any length; input and output go by chunks, so memory stays the same. What is known is printed before more is read. A failed read or write ends the
+// program with a line on standard error.
+ghost use mathlib.Core.Path.{_≡_};
+use lines::KEPT;
+use lines::SIZE;
+use lines::State;
+use reader::Answer;
+
+// Prepares the pattern after the word, and prints its refusal or answers the order lines. Nothing waits then.
+fn serve_fields(
+    chunk: &mut [u8; SIZE],
+    line: &mut [u8; KEPT],
+    out: &mut [u8; SIZE],
+    first: State,
+) -> State
+    ensures { λ r. ⌜ r .used ≡ 0 ⌝ }
+{
+    let mut masks = [0u64; 256];
+    let mut rows = [0u8; 4225];
+    let mut lens = [0u8; 65];
+    let mut sets = [0u64; 65];
+    let mut ends = [0u8; 65];
+    let mut next = [0u64; 257];
+    let mut hows = [0u8; 10];
+    let mut marks = [0u16; 4225];
+    let ready = orders::prepare_fields(
+        line,
+        first,
+        7,
+        &mut masks,
+        &mut rows,
+        &mut lens,
+        &mut sets,
+        &mut ends,
+        &mut next,
+        &mut hows,
+        &mut marks,
+    );
+    let answer = ready.answer;
+    let count = ready.count;
+    let Answer::Refused { number, place } = answer else {
+        return orders::run(
+            chunk,
+            line,
+            out,
+            true,
+            count,
+            &masks,
+            &rows,
+            &lens,
+            &sets,
+            &ends,
+            &next,
+            &hows,
+            &marks,
+            first,
+        );
+    };
+    let mut s = first;
+    s.used = printing::refused(out, 0, number, place);
+    lines::write_out(out, s)
+}
+
+// The first line's word decides.
+fn serve(chunk: &mut [u8; SIZE], line: &mut [u8; KEPT], out: &mut [u8; SIZE], first: State) -> State
+    ensures { λ r. ⌜ r .used ≡ 0 ⌝ }
+{
+    if lines::begins_with(lines::first_of(line, first.n), b"fields ") {
+        return serve_fields(chunk, line, out, first);
+    }
+    let mut s = first;
+    s.used = printing::text(out, 0, b"unknown");
+    lines::write_out(out, s)
+}
+
+fn main() {
+    let mut chunk = [0u8; SIZE];
+    let mut line = [0u8; KEPT];
+    let mut out = [0u8; SIZE];
+    let mut s = lines::first_line(&mut chunk, &mut line, &out);
+    if s.whole {
+        s = serve(&mut chunk, &mut line, &mut out, s);
+    }
+    let source = s.source;
+    lines::tell(&mut out, source);
+}
