@@ -11,7 +11,8 @@
 # paper adds end where Perl's other choices for it do, in the same order. To glibc, as to the paper, an empty turn adds nothing: no POSIX span is left out.
 #
 # Fields are compared where Perl's captures are the paper's fields by definition: at most eight brackets, no repeat over a part that matches the empty string, and no
-# repeat of which a turn may leave out a bracket inside, since what such a bracket keeps is Perl's own affair.
+# repeat of which a turn may leave out a bracket inside, since what such a bracket keeps is Perl's own affair. Nor are they where a bracket has a repeat inside another
+# repeat: going back over such a turn Perl loses what it had caught, as in `((a){1,1}){0,2}a{3}` on aaaa, where the inner bracket took 0 1.
 use strict;
 use warnings;
 use List::Util qw(max min product sum0);
@@ -41,8 +42,8 @@ my $blank;
 sub pick { return $_[rand @_] }
 
 # ---- Parts of a pattern: kind, three spellings, in how many ways it matches the empty string without a turn of a loop, the most such ways of it or a part of it,
-# constructs that its text does not show, weight, a sub that gives a sample of what it matches, how many brackets it has, whether a match may leave one out, and
-# whether a later turn may.
+# constructs that its text does not show, weight, a sub that gives a sample of what it matches, how many brackets it has, whether a match may leave one out, whether
+# one has a repeat, and whether a later turn may leave one out or has such a repeat inside.
 
 # A set for glibc: `]` first, `-` last, `^` before it; the rest ascends, so that no `[` stands before `.`, `:` or `=`. Byte 0, which regcomp cannot be given, is in
 # a set by not being listed; to hold all bytes or none takes two leaves. glibc's own `.` would not do: it takes 10 and not 0.
@@ -69,7 +70,7 @@ sub leaf {
     return {
         kind => 'leaf', ours => $text, posix => bracket_expression($members),
         map({ $_ => $negated ? "[^$escapes]" : length $listed == 1 ? sprintf('\x{%x}', ord $listed) : "[$escapes]" } qw(perl caught)), empty => 0, widest => 0, has => [],
-        weight => 1, brackets => 0, skips => 0, left => 0, sample => sub { my $from = $own ne '' && rand() < 0.8 ? $own : $others; substr $from, rand length $from, 1 },
+        weight => 1, brackets => 0, skips => 0, again => 0, left => 0, sample => sub { my $from = $own ne '' && rand() < 0.8 ? $own : $others; substr $from, rand length $from, 1 },
     };
 }
 
@@ -87,7 +88,8 @@ sub spellings {
 sub bracketing {
     my ($either, @parts) = @_;
     my $brackets = sum0(map { $_->{brackets} } @parts);
-    return (brackets => $brackets, skips => $either && @parts > 1 ? $brackets > 0 : !!grep({ $_->{skips} } @parts), left => !!grep { $_->{left} } @parts);
+    my %some = map { my $what = $_; $what => !!grep { $_->{$what} } @parts } qw(skips again left);
+    return (%some, brackets => $brackets, $either && @parts > 1 ? (skips => $brackets > 0) : ());
 }
 
 sub sequence {
@@ -133,7 +135,8 @@ sub repeat {
     };
     return {
         kind => 'repeat', ours => $atom->{ours} . $sign, perl => $perl, caught => $atom->{caught} . $plain, posix => $atom->{posix} . $plain,
-        brackets => $atom->{brackets}, skips => $least ? $atom->{skips} : $atom->{brackets} > 0, left => $atom->{left} || $atom->{skips} && ($most // 2) > 1, empty => $ways, widest => max($ways, $atom->{widest}),
+        brackets => $atom->{brackets}, skips => $least ? $atom->{skips} : $atom->{brackets} > 0, again => $atom->{brackets} > 0,
+        left => $atom->{left} || ($atom->{skips} || $atom->{again}) && ($most // 2) > 1, empty => $ways, widest => max($ways, $atom->{widest}),
         has => [@{$atom->{has}}, $atom->{empty} ? 'repeat of a part that matches empty' : (), $more ? 'count written out for Perl' : ()],
         weight => $atom->{weight} * ($most // $least + 1) || 1, sample => $sample,
     };
