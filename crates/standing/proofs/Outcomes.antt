@@ -7,44 +7,19 @@ use mathlib.Core.List.{List, [], _∷_, _++_, append-nil, append-assoc}
 use native.Mathlib.Omega.{arith}
 use lib.Dec.{T, eqb, eqb-refl, eqb·suc-suc}
 use borrow.Author.Tests.{lt-ltb}
-use Rattle.theory.specs.Pattern.{Re, empty, leaf, seq, alt, star, field, count, has, Numbered}
+use Rattle.theory.specs.Pattern.{Re, leaf, count, has, Numbered}
 use Rattle.theory.specs.Outcomes.{endsAt, wants}
 use Rattle.theory.specs.Standing.{member, gather, once, fronts}
 use Rattle.theory.specs.Code.Follow.{Next, start, follow}
 use Rattle.theory.specs.Code.Closure.{items, closure, closureAfter, front, flat, takes}
 use Rattle.theory.proofs.Tests.{or-left, or-right, or-cases, either}
 use Rattle.theory.proofs.Members.{member-append, gather-member}
-use Rattle.theory.proofs.Outcomes.{AllOut, none, end, wish, all-map, all-append, all-replace}
-use Rattle.theory.proofs.Turns.{all-emptyTurn, all-thenLeave}
-use Rattle.theory.proofs.Equations.{Leaf, all-when}
+use Rattle.theory.proofs.Outcomes.{end}
 use Rattle.theory.proofs.Extend.{leaf-range}
+use Rattle.theory.proofs.Nexts.{Leaves, start-all, follow-all}
 use Rattle.theory.proofs.Step.{wanted-in}
 use Rattle.theory.proofs.Closure.{closure-right, closureAfter-right, up, up-append, member-up, zero-up, gather-more, member-wants}
 use Rattle.standing.specs.Reads.{leaves}
-
--- Every wanted leaf is a leaf of the pattern.
-abbrev pub Leaves : Re → List Next → Type 0
-Leaves r l = AllOut (λ _. Unit {0}) (Leaf r) l
-
-start-all : (r : Re) → Leaves r (start r)
-unfolding start
-start-all empty = end tt none
-start-all (leaf p s) = wish Leaf.here none
-start-all (seq x y) = all-replace (λ k u. all-map (λ _ v. v) (λ q l. Leaf.seq-right l) (start-all y)) (λ q l. wish (Leaf.seq-left l) none) (start-all x)
-start-all (alt x y) = all-append (all-map (λ _ v. v) (λ q l. Leaf.alt-left l) (start-all x)) (all-map (λ _ v. v) (λ q l. Leaf.alt-right l) (start-all y))
-start-all (star x) = all-thenLeave tt (all-replace (λ k u. all-emptyTurn k tt) (λ q l. wish (Leaf.under l) none) (start-all x)) tt
-start-all (field f x) = all-map (λ _ v. v) (λ q l. Leaf.inside l) (start-all x)
-
-pub follow-all : (r : Re) (p : ℕ) → Leaves r (follow r p)
-unfolding follow
-follow-all empty p = none
-follow-all (leaf q s) p = all-when (eqb p q) (λ t. end tt none)
-follow-all (seq x y) p =
-    all-append (all-replace (λ k u. all-map (λ _ v. v) (λ q l. Leaf.seq-right l) (start-all y)) (λ q l. wish (Leaf.seq-left l) none) (follow-all x p))
-    (all-map (λ _ v. v) (λ q l. Leaf.seq-right l) (follow-all y p))
-follow-all (alt x y) p = all-append (all-map (λ _ v. v) (λ q l. Leaf.alt-left l) (follow-all x p)) (all-map (λ _ v. v) (λ q l. Leaf.alt-right l) (follow-all y p))
-follow-all (star x) p = all-replace (λ k u. start-all (star x)) (λ q l. wish (Leaf.under l) none) (follow-all x p)
-follow-all (field f x) p = all-map (λ _ v. v) (λ q l. Leaf.inside l) (follow-all x p)
 
 -- What is read off the numbers.
 pub front-items : (l : List Next) → front (items l) ≡ fronts l

@@ -12,6 +12,7 @@ pub mod Matching
 pub mod Numbering
 -- A line that grows by a byte: the standing goes to the next.
 pub mod Extend
+pub mod Nexts
 pub mod Step
 pub mod Ends
 pub mod Sizes

@@ -9,7 +9,7 @@ use Rattle.theory.specs.Standing.{member}
 use Rattle.theory.proofs.Closure.{up, up-append, member-up, zero-up}
 use Rattle.traces.specs.Traces.{Carried, endsAt, wants}
 use Rattle.traces.specs.Fields.{firstWay}
-use Rattle.traces.specs.Code.Pass.{Values, Thread, firsts, fronts, orElse}
+use Rattle.traces.specs.Code.Pass.{Values, Thread, firsts, fronts}
 use Rattle.threads.specs.Reads.{leavesOf, entered}
 
 -- After an end nothing counts.
@@ -21,11 +21,6 @@ pub entered-append : (ts : List Thread) (l m : List (Carried Values)) → entere
 entered-append ts [] m = refl
 entered-append ts (endsAt k v ∷ l) m = refl
 entered-append ts (wants p v ∷ l) m = entered-append _ l m
-
-pub way-append : (l m : List (Carried Values)) → firstWay (l ++ m) ≡ orElse (firstWay l) (firstWay m)
-way-append [] m = refl
-way-append (endsAt k v ∷ l) m = refl
-way-append (wants p v ∷ l) m = way-append l m
 
 leaves-append : (ts us : List Thread) → leavesOf (ts ++ us) ≡ leavesOf ts ++ leavesOf us
 leaves-append [] us = refl

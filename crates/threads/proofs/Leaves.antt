@@ -5,17 +5,16 @@ use Prim.Native.Nat.{ℕ, zero, suc, _<_}
 use mathlib.Core.Bool.{Bool, true, false}
 use mathlib.Core.List.{List, [], _∷_, _++_}
 use native.Mathlib.Omega.{arith}
-use lib.Dec.{T, eqb}
-use Rattle.theory.specs.Pattern.{Re, empty, leaf, seq, alt, star, field, count, has, Numbered}
-use Rattle.theory.specs.Outcomes.{Outcome, when}
+use lib.Dec.{T}
+use Rattle.theory.specs.Pattern.{Re, count, has, Numbered}
+use Rattle.theory.specs.Outcomes.{when}
 use Rattle.theory.specs.Standing.{member}
 use Rattle.theory.specs.Code.Follow.{Next, start, follow}
 use Rattle.theory.specs.Code.Closure as Plain-items
 use Rattle.theory.proofs.Tests.{or-cases, either}
 use Rattle.theory.proofs.Members.{member-append, gather-member}
-use Rattle.theory.proofs.Outcomes.{AllOut, none, end, wish, all-map, all-append, all-replace}
-use Rattle.theory.proofs.Equations.{Leaf, seq-left, seq-right, alt-left, alt-right, under, inside, all-when, outcomes-all}
-use Rattle.theory.proofs.Extend.{place, leaf-range, outcomes-end}
+use Rattle.theory.proofs.Extend.{place, leaf-range}
+use Rattle.theory.proofs.Nexts.{Leaves, start-all, follow-all}
 use Rattle.theory.proofs.Step.{wanted-in}
 use Rattle.theory.proofs.Closure.{closure-right, closureAfter-right, member-wants}
 use Rattle.traces.specs.Traces.{Carried, endsAt, wants}
@@ -23,30 +22,8 @@ use Rattle.traces.specs.Code.Pass.{Values, Sets, item, items, firsts, firstRow,
 use Rattle.traces.specs.Code.Marks.{rowSets}
 use Rattle.traces.proofs.Firsts.{row-items, firstRow-items}
 
--- What a part begins with, and what follows its leaf p.
-abbrev AllNext : Re → List Next → Type 0
-AllNext r l = AllOut (λ _. Unit {0}) (Leaf r) l
-
-start-all : (r : Re) → AllNext r (start r)
-start-all r = go (start r) (rw (outcomes-end r []) at (outcomes-all r [] 0))
-  where
-    go : {P : ℕ → Type 0} (l : List Next) → AllOut P (Leaf r) (place 0 l) → AllNext r l
-    go [] h = none
-    go (Outcome.endsAt u ∷ l) (end x h) = end tt (go l h)
-    go (Outcome.wants p ∷ l) (wish x h) = wish x (go l h)
-
-follow-all : (r : Re) (p : ℕ) → AllNext r (follow r p)
-unfolding follow
-follow-all empty p = none
-follow-all (leaf q s) p = all-when (eqb p q) (λ t. end tt none)
-follow-all (seq x y) p =
-    all-append (all-replace (λ k u. all-map (λ _ v. v) (λ q l. seq-right l) (start-all y)) (λ q l. wish (seq-left l) none) (follow-all x p)) (all-map (λ _ v. v) (λ q l. seq-right l) (follow-all y p))
-follow-all (alt x y) p = all-append (all-map (λ _ v. v) (λ q l. alt-left l) (follow-all x p)) (all-map (λ _ v. v) (λ q l. alt-right l) (follow-all y p))
-follow-all (star x) p = all-replace (λ k u. start-all (star x)) (λ q l. wish (under l) none) (follow-all x p)
-follow-all (field f x) p = all-map (λ _ v. v) (λ q l. inside l) (follow-all x p)
-
 module _ (r : Re) (d : Numbered 0 r) where
-  wanted-below : (l : List Next) → AllNext r l → (q : ℕ) → T (member (suc q) (Plain-items.items l)) → q < count r
+  wanted-below : (l : List Next) → Leaves r l → (q : ℕ) → T (member (suc q) (Plain-items.items l)) → q < count r
   wanted-below l h q t = let c = leaf-range 0 d (wanted-in h q (rw (member-wants q l) at t)) in omega arith
 
   pub row-below : (k q : ℕ) → T (member (suc q) (items (firsts [] (rowSets k r)))) → q < count r

@@ -22,7 +22,8 @@ use Rattle.traces.specs.Fields.{firstWay}
 use Rattle.traces.specs.Code.Pass.{Values, Thread}
 use Rattle.threads.specs.Slots.{Slots, slots, Long, Holds, Marked, Moved}
 use Rattle.threads.specs.Reads.{State, order, Sound, blank, threads, leavesOf, AreThreads, entered, Found, Reads, LeafEntered}
-use Rattle.threads.proofs.Entered.{entered-append, way-append}
+use Rattle.traces.proofs.Pass.{way-append}
+use Rattle.threads.proofs.Entered.{entered-append}
 
 -- Threads made of leaves.
 pub threads-append : (v : ℕ → Values) (l m : List ℕ) → threads v (l ++ m) ≡ threads v l ++ threads v m

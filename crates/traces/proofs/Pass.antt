@@ -43,7 +43,7 @@ module _ {C : Type 0} where
   abbrev nothing : ℕ → C → Option (ℕ × C)
   nothing p v = none
 
-  way-append : (l m : List (Carried C)) → firstWay (l ++ m) ≡ orElse (firstWay l) (firstWay m)
+  pub way-append : (l m : List (Carried C)) → firstWay (l ++ m) ≡ orElse (firstWay l) (firstWay m)
   way-append [] m = refl
   way-append (endsAt k v ∷ l) m = refl
   way-append (wants p v ∷ l) m = way-append l m
