@@ -1,7 +1,7 @@
 /* Times one engine on one pattern: matchers ENGINE PATTERN UNIT END LENGTH.., where ENGINE is `yindorka` (both spans), `fields` (the greedy span with its fields), `glibc` (regexec, the
  * POSIX span) or `pcre2` (the greedy span with captures; its library is looked for when it is asked for, and needs no header). A line of each length is
  * UNIT over and over, with END at its end. Prints for each length nanoseconds a byte by processor time, the best of the rounds, and how much longer the line took than the
- * one before it in the list, the median of the rounds. Every round times each length in turn, so that a slow moment of the machine falls on neighbours alike. */
+ * one before it in the list, the median of the rounds; or `limit`, where PCRE2 stopped at one of its own. Every round times each length in turn, so that a slow moment of the machine falls on neighbours alike. */
 #include <dlfcn.h>
 #include <regex.h>
 #include <stdio.h>
@@ -52,10 +52,14 @@ static int (*pcre2_match)(const void *, const uint8_t *, size_t, size_t, uint32_
 static size_t *(*pcre2_places)(void *);
 static int (*pcre2_jit)(void *, uint32_t);
 static void *pcre2_code, *pcre2_data;
+/* Whether it stopped at one of its limits: such a time says nothing. */
+static int gave_up;
 
 static void captures(const uint8_t *line, size_t length)
 {
-    sink += (size_t)pcre2_match(pcre2_code, line, length, 0, 0, pcre2_data, NULL) + pcre2_places(pcre2_data)[1];
+    int found = pcre2_match(pcre2_code, line, length, 0, 0, pcre2_data, NULL);
+    gave_up |= found < -1;
+    sink += (size_t)found + pcre2_places(pcre2_data)[1];
 }
 
 /* Whether the library is there and takes the pattern. Its compiler for the machine is used where it has one. */
@@ -166,6 +170,10 @@ int main(int n, char **words)
             growth[k][round] = k == 0 ? 0 : whole / before;
             before = whole;
         }
+    }
+    if (gave_up) {
+        puts("limit");
+        return 0;
     }
     for (size_t k = 0; k < count; k++) {
         qsort(growth[k], ROUNDS, sizeof growth[k][0], ascending);

@@ -10,7 +10,7 @@
  *
  * The stack is not proved. It was measured over some 25,000 patterns, the deepest and the heaviest among them, for 1.0.0, and for each version since over those that
  * took the most; tests/embedding holds it:
- * yindorka_check takes at most 220 KB, yindorka_prepare 220 KB, yindorka_cut 2 KB, yindorka_prepare_fields 240 KB, yindorka_cut_fields 20 KB. The size of a line or a
+ * yindorka_check takes at most 180 KB, yindorka_prepare 180 KB, yindorka_cut 2 KB, yindorka_prepare_fields 180 KB, yindorka_cut_fields 20 KB. The size of a line or a
  * table changes nothing in this.
  */
 #ifndef YINDORKA_H

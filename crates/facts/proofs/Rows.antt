@@ -21,6 +21,7 @@ use Rattle.theory.proofs.Tests.{T-true, not-true, and-false}
 use Rattle.theory.proofs.Members.{gather-member, any-found, any-of, filter-passes}
 use Rattle.theory.proofs.Equations.{all-when}
 use Rattle.theory.proofs.Extend.{leaf-range}
+use Rattle.theory.proofs.Nexts.{follow-all}
 use Rattle.theory.proofs.Step.{wanted-in, afters-member, afters-end}
 use Rattle.theory.proofs.Closure.{closure-right, closureAfter-right, member-zero, member-wants}
 use Rattle.words.specs.Sets.{hasBit}
@@ -28,7 +29,6 @@ use Rattle.words.proofs.Bits.{and-bit, no-bit}
 use Rattle.follow.specs.declared.Tables.{Tables}
 use Rattle.follow.specs.Rows.{row, Summed}
 use Rattle.standing.specs.Stands.{Arrays, Lent}
-use Rattle.standing.proofs.Outcomes.{follow-all}
 use Rattle.standing.proofs.Sets.{any-cut, any-filter, any-ext, filter-cut, from-below}
 use Rattle.facts.specs.Moves.{Moves}
 use Rattle.facts.specs.Sets.{leavesIn, Wants, Endings, Takes}

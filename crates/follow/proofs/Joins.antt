@@ -18,15 +18,14 @@ use Rattle.traces.specs.Traces.{Carried}
 use Rattle.traces.specs.Code.Pass.{Sets, items}
 use Rattle.traces.specs.Code.Sets.{join, joined}
 use Rattle.traces.specs.Code.Marks.{Shows, setsOf}
-use Rattle.follow.specs.declared.Outcomes.{Outcomes}
-use Rattle.follow.specs.Outcomes.{listed, Good, Lists}
+use Rattle.follow.specs.Outcomes.{Whole, listed, Good, Lists}
 use Rattle.follow.specs.Parts.{Added, Joined}
 use Rattle.follow.proofs.Masks.{shows-join}
 use Rattle.follow.proofs.Items.{items-append, items-joined, once-append, sets-append, sets-joined, outcome, outcome-item, outcome-sets, outcomes, outcomes-items, outcomes-sets}
 use Rattle.follow.proofs.Lists.{member-is}
 
 -- A list that goes on by k is one that goes on by m, if k and m have the same outcomes with the same fields.
-again : {x : Outcomes} (l k m : List (Carried Sets)) → once (items k) ≡ once (items m) → ((q : ℕ) → T (member q (items k)) → setsOf q k ≡ setsOf q m) → Lists x (l ++ k) → Lists x (l ++ m)
+again : {x : Whole} (l k m : List (Carried Sets)) → once (items k) ≡ once (items m) → ((q : ℕ) → T (member q (items k)) → setsOf q k ≡ setsOf q m) → Lists x (l ++ k) → Lists x (l ++ m)
 again {x} l k m e d is =
     record {
       good = is .good;
@@ -51,13 +50,13 @@ abbrev wayTo : Sets → List (Carried Sets) → ℕ → Sets
 wayTo s m p = join s (setsOf p m)
 
 -- r is x, and then the first i outcomes of y after the fields that the mask b has.
-abbrev pub JoinedTo : Outcomes → Outcomes → ℕ → ℕ → Outcomes → Type 0
+abbrev pub JoinedTo : Whole → Whole → ℕ → ℕ → Whole → Type 0
 JoinedTo x y b i r = (l m : List (Carried Sets)) (s : Sets) → Lists x l → Lists y m → Shows b s → Lists r (l ++ outcomes (wayTo s m) (take i (listed y)))
 
-pub join-begin : (x y : Outcomes) (b : ℕ) → JoinedTo x y b 0 x
+pub join-begin : (x y : Whole) (b : ℕ) → JoinedTo x y b 0 x
 join-begin x y b l m s a c d = rw (append-nil l) a
 
-module _ (y : Outcomes) (g : Good y) where
+module _ (y : Whole) (g : Good y) where
   size : length (listed y) ≡ y .len
   size = length-take-le (y .len) (y .items) (omega (arith, g .room, g .long))
 
@@ -67,8 +66,8 @@ module _ (y : Outcomes) (g : Good y) where
   pub item-small : (i : ℕ) → i < y .len → getD (y .items) i 0 ≤ 64
   item-small i h = g .small _ (item-listed i h)
 
-  module _ {x : Outcomes} {b : ℕ} (i : ℕ) {r : Outcomes} (before : JoinedTo x y b i r) where
-    pub join-turn : {r′ : Outcomes} → i < y .len → Added r (getD (y .items) i 0) (bitOr b (getD (y .marks) (getD (y .items) i 0) 0)) r′ → JoinedTo x y b (i + 1) r′
+  module _ {x : Whole} {b : ℕ} (i : ℕ) {r : Whole} (before : JoinedTo x y b i r) where
+    pub join-turn : {r′ : Whole} → i < y .len → Added r (getD (y .items) i 0) (bitOr b (getD (y .marks) (getD (y .items) i 0) 0)) r′ → JoinedTo x y b (i + 1) r′
     join-turn h added l m s a c d =
         let p = getD (y .items) i 0 in
         let o = outcome p (wayTo s m p) in

@@ -21,18 +21,21 @@ use Rattle.traces.specs.Code.Pass.{Sets, item, items}
 use Rattle.traces.specs.Code.Marks.{Shows, carriedBy, setsOf}
 use Rattle.words.specs.Sets.{hasBit, withLeaf}
 use Rattle.words.proofs.Bits.{no-bit, with-bit}
-use Rattle.follow.specs.declared.Outcomes.{Outcomes}
-use Rattle.follow.specs.Outcomes.{listed, flag, Good, Lists}
+use Rattle.follow.specs.Outcomes.{Whole, listed, flag, Good, Lists}
 use Rattle.follow.specs.Parts.{Added}
 use Rattle.follow.proofs.Items.{once-append, sets-append}
 
-pub none-lists : Lists (record { items = replicate 65 0; len = 0; set = 0; end = 0; marks = replicate 65 0 }) []
-none-lists =
+-- An array of zeros for a list.
+pub fresh : length (replicate {A = ℕ} 65 0) ≡ 65
+fresh = length-replicate {A = ℕ} 65 0
+
+pub none-lists : (items marks : List ℕ) → length items ≡ 65 → length marks ≡ 65 → Lists (record { items = items; len = 0; set = 0; end = 0; marks = marks }) []
+none-lists items marks l w =
     record {
       good =
           record {
-            long = length-replicate {A = ℕ} 65 0;
-            wide = length-replicate {A = ℕ} 65 0;
+            long = l;
+            wide = w;
             room = omega arith;
             each = refl;
             small = λ q t. absurd t;
@@ -47,14 +50,14 @@ flag-one : (b : Bool) → eqb (flag b) 1 ≡ b
 flag-one true = refl
 flag-one false = refl
 
-pub holds-end : (x : Outcomes) (p : ℕ) → Good x → p ≡ 0 → eqb (x .end) 1 ≡ member p (listed x)
+pub holds-end : (x : Whole) (p : ℕ) → Good x → p ≡ 0 → eqb (x .end) 1 ≡ member p (listed x)
 holds-end x p g e = rw (e, g .end) (flag-one (member 0 (listed x)))
 
-pub holds-leaf : (x : Outcomes) (p q : ℕ) → Good x → p ≤ 64 → p ≡ suc q → hasBit (x .set) q ≡ member p (listed x)
+pub holds-leaf : (x : Whole) (p q : ℕ) → Good x → p ≤ 64 → p ≡ suc q → hasBit (x .set) q ≡ member p (listed x)
 holds-leaf x p q g h e = rw e (g .set q (omega arith))
 
 -- The list x is the list l.
-module _ {x : Outcomes} {l : List (Carried Sets)} (is : Lists x l) where
+module _ {x : Whole} {l : List (Carried Sets)} (is : Lists x l) where
   pub member-is : (q : ℕ) → member q (listed x) ≡ member q (items l)
   member-is q = rw (is .are) (gather-member q [] (items l))
 
@@ -72,7 +75,7 @@ each-gather : (s l : List ℕ) → once s ≡ s → once (gather s l) ≡ gather
 each-gather s l h = let e : once (s ++ l) ≡ gather s l = gather-append [] s l ∙ ap (λ v. gather v l) h in rw e at (gather-once [] (s ++ l))
 
 -- One number more.
-module _ (x : Outcomes) (p : ℕ) (h : p ≤ 64) (g : Good x) where
+module _ (x : Whole) (p : ℕ) (h : p ≤ 64) (g : Good x) where
   small-more : (q : ℕ) → T (member q (gather (listed x) (p ∷ []))) → q ≤ 64
   small-more q t =
       either (λ m. g .small q m)
@@ -95,7 +98,7 @@ module _ (x : Outcomes) (p : ℕ) (h : p ≤ 64) (g : Good x) where
 
     module _ (b : ℕ) where
       -- The list with it, its bits and its flag.
-      abbrev with : ℕ → ℕ → Outcomes
+      abbrev with : ℕ → ℕ → Whole
       with bits end = record { items = set (x .items) (x .len) p; len = x .len + 1; set = bits; end = end; marks = set (x .marks) p b }
 
       append-added : (bits end : ℕ) → ((q : ℕ) → q < 64 → hasBit bits q ≡ (hasBit (x .set) q || eqb (suc q) p)) → end ≡ flag (member 0 (listed x) || eqb 0 p) → Added x p b (with bits end)

@@ -17,8 +17,7 @@ use Rattle.grammar.specs.Brackets.{maxFields}
 use Rattle.grammar.specs.Code.Codes.{firstField, firstLeaf, partKind}
 use Rattle.grammar.proofs.Codes.{kind-field, kind-leaf, Kinded, is-empty, is-sequence, is-alternation, is-star, is-field, is-leaf, kinded}
 use Rattle.arrays.specs.Decoded.{leafOf, middle, part, partOf}
-use Rattle.follow.specs.declared.Outcomes.{Outcomes}
-use Rattle.follow.specs.Outcomes.{Good, Lists}
+use Rattle.follow.specs.Outcomes.{Whole, Good, Lists}
 use Rattle.follow.specs.Parts.{Joined, Begins, Nexts, Stands}
 use Rattle.follow.proofs.Masks.{shows-neither}
 use Rattle.follow.proofs.Parts.{byLast, part-at, part-some, field-part, leaf-part}
@@ -66,18 +65,18 @@ absent kinds sizes masks p (suc f) low (suc last) n m =
         let h = ltb-false last low e in
         absent-parts masks p (getD kinds last 0) _ _ _ (λ k. n (last, h, omega arith, k)) w (x h) (y h) m
 
-module _ {kinds sizes : List ℕ} {low end : ℕ} (p : ℕ) {rest out : Outcomes} where
+module _ {kinds sizes : List ℕ} {low end : ℕ} (p : ℕ) {rest out : Whole} where
   -- A part without the leaf adds nothing.
   pub after-absent : (Stands kinds low end (firstLeaf + p) → ⊥) → Good out → Nexts p kinds sizes low end rest out out
   after-absent n g = record { good = g; collects = λ m l a o masks f i. rw (absent kinds sizes masks p f low end n m, append-nil l) o }
 
   module _ (h : low < end) where
-    by-last : {r : Outcomes} → Good r
+    by-last : {r : Whole} → Good r
         → ((m l : List (Carried Sets)) → Lists rest m → Lists out l → (masks : List ℕ) (f : ℕ) → end ≤ low + suc f → Lists r (l ++ after m (byLast kinds sizes masks low f (end - 1)) p))
         → Nexts p kinds sizes low end rest out r
     by-last {r} good k = record { good = good; collects = λ m l a o masks. part-some kinds sizes masks low (λ x. Lists r (l ++ after m x p)) end h (k m l a o masks) }
 
-    pub after-here : {r : Outcomes} → p < 64 → lastKind kinds end ≡ firstLeaf + p → Joined out rest 0 r → Nexts p kinds sizes low end rest out r
+    pub after-here : {r : Whole} → p < 64 → lastKind kinds end ≡ firstLeaf + p → Joined out rest 0 r → Nexts p kinds sizes low end rest out r
     after-here k e j =
         let d : lastKind kinds end - firstLeaf ≡ p = omega arith in
         by-last (j .good) λ m l a o masks f g.
@@ -91,7 +90,7 @@ module _ {kinds sizes : List ℕ} {low end : ℕ} (p : ℕ) {rest out : Outcomes
     pub after-nothing : lastKind kinds end ≡ 0 → Good out → Nexts p kinds sizes low end rest out out
     after-nothing e good = by-last good λ m l a o masks f g. rw (e, after-empty m p, append-nil l) o
 
-    pub after-within : {none y r : Outcomes} → firstField ≤ lastKind kinds end → lastKind kinds end < firstLeaf → Lists none [] → Joined none rest (2 ^ (maxFields + (lastKind kinds end - firstField))) y
+    pub after-within : {none y r : Whole} → firstField ≤ lastKind kinds end → lastKind kinds end < firstLeaf → Lists none [] → Joined none rest (2 ^ (maxFields + (lastKind kinds end - firstField))) y
         → Nexts p kinds sizes low (end - 1) y out r → Nexts p kinds sizes low end rest out r
     after-within i k blank j inner =
         let n = lastKind kinds end - firstField in
@@ -99,7 +98,7 @@ module _ {kinds sizes : List ℕ} {low end : ℕ} (p : ℕ) {rest out : Outcomes
         rw (field-part masks (lastKind kinds end) _ _ _ i k, after-field m p (suc n) _)
         (inner .collects (joined (closing (suc n)) m) l (closed-lists n (omega arith) blank j m a) o masks f (omega arith))
 
-    pub after-again : {none y r : Outcomes} → lastKind kinds end ≡ 3 → Lists none [] → Begins kinds sizes low end 0 rest none y → Nexts p kinds sizes low (end - 1) y out r → Nexts p kinds sizes low end rest out r
+    pub after-again : {none y r : Whole} → lastKind kinds end ≡ 3 → Lists none [] → Begins kinds sizes low end 0 rest none y → Nexts p kinds sizes low (end - 1) y out r → Nexts p kinds sizes low end rest out r
     after-again {y = y} e blank again turn =
         by-last (turn .good) λ m l a o masks f g.
         let x = part f kinds sizes masks low (end - 1) in
@@ -107,7 +106,7 @@ module _ {kinds sizes : List ℕ} {low end : ℕ} (p : ℕ) {rest out : Outcomes
         rw (e, after-star m p x) (turn .collects (into m neither (star x)) l whole o masks f (omega arith))
 
     module _ {mid : ℕ} (at : mid ≡ middle sizes low (end - 1)) where
-      pub after-both : {y r : Outcomes} → lastKind kinds end ≡ 2 → Nexts p kinds sizes low mid rest out y → Nexts p kinds sizes mid (end - 1) rest y r → Nexts p kinds sizes low end rest out r
+      pub after-both : {y r : Whole} → lastKind kinds end ≡ 2 → Nexts p kinds sizes low mid rest out y → Nexts p kinds sizes mid (end - 1) rest y r → Nexts p kinds sizes low end rest out r
       after-both e left right =
           by-last (right .good) λ m l a o masks f g.
           let x = part f kinds sizes masks low mid in
@@ -115,14 +114,14 @@ module _ {kinds sizes : List ℕ} {low end : ℕ} (p : ℕ) {rest out : Outcomes
           rw (e, ← at, after-alt m p x z, ← append-assoc l (after m x p) (after m z p))
           (right .collects m (l ++ after m x p) a (left .collects m l a o masks f (omega arith)) masks f (omega arith))
 
-      pub after-right : {r : Outcomes} → lastKind kinds end ≡ 1 → (Stands kinds low mid (firstLeaf + p) → ⊥) → Nexts p kinds sizes mid (end - 1) rest out r → Nexts p kinds sizes low end rest out r
+      pub after-right : {r : Whole} → lastKind kinds end ≡ 1 → (Stands kinds low mid (firstLeaf + p) → ⊥) → Nexts p kinds sizes mid (end - 1) rest out r → Nexts p kinds sizes low end rest out r
       after-right e n right =
           by-last (right .good) λ m l a o masks f g.
           let x = part f kinds sizes masks low mid in
           let z = part f kinds sizes masks mid (end - 1) in
           rw (e, ← at, after-seq m p x z, absent kinds sizes masks p f low mid n (into m neither z)) (right .collects m l a o masks f (omega arith))
 
-      pub after-left : {none y u r : Outcomes} → lastKind kinds end ≡ 1 → Lists none [] → Begins kinds sizes mid (end - 1) 0 rest none y
+      pub after-left : {none y u r : Whole} → lastKind kinds end ≡ 1 → Lists none [] → Begins kinds sizes mid (end - 1) 0 rest none y
           → Nexts p kinds sizes low mid y out u → Nexts p kinds sizes mid (end - 1) rest u r → Nexts p kinds sizes low end rest out r
       after-left e blank next left right =
           by-last (right .good) λ m l a o masks f g.

@@ -48,10 +48,10 @@ module _ (masks : List ℕ) (k : ℕ) (w x y : Re) where
       let e : firstLeaf + (k - firstLeaf) ≡ k = omega arith in
       subst (λ n. partOf masks (partKind n) w x y ≡ leafOf masks (k - firstLeaf)) e (rw (kind-leaf (k - firstLeaf)))
 
--- The kind that is left.
-pub two : (k : ℕ) → (k ≡ 0 → ⊥) → (k ≡ 3 → ⊥) → (k ≡ 1 → ⊥) → k < firstField → k ≡ 2
-two zero a b c h = absurd (a refl)
-two (suc zero) a b c h = absurd (c refl)
-two (suc (suc zero)) a b c h = refl
-two (suc (suc (suc zero))) a b c h = absurd (b refl)
-two (suc (suc (suc (suc k)))) a b c h = absurd (omega arith)
+-- The kinds that are left.
+pub past-three : (k : ℕ) → (k ≡ 0 → ⊥) → (k ≡ 3 → ⊥) → (k ≡ 2 → ⊥) → (k ≡ 1 → ⊥) → firstField ≤ k
+past-three zero a b c d = absurd (a refl)
+past-three (suc zero) a b c d = absurd (d refl)
+past-three (suc (suc zero)) a b c d = absurd (c refl)
+past-three (suc (suc (suc zero))) a b c d = absurd (b refl)
+past-three (suc (suc (suc (suc k)))) a b c d = omega arith

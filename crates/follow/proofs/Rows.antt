@@ -20,10 +20,9 @@ use Rattle.traces.proofs.Sets.{into-end, after-end}
 use Rattle.traces.specs.Code.Marks.{rowSets}
 use Rattle.arrays.specs.declared.Pattern.{Pattern}
 use Rattle.arrays.specs.Decoded.{part, decode}
-use Rattle.follow.specs.declared.Outcomes.{Outcomes}
 use Rattle.follow.specs.declared.Tables.{Tables}
 use Rattle.follow.specs.Rows.{row, Summed, Right, Marked}
-use Rattle.follow.specs.Outcomes.{listed, flag, Good, Lists}
+use Rattle.follow.specs.Outcomes.{Whole, listed, flag, Good, Lists}
 use Rattle.follow.specs.Parts.{Begins, Nexts}
 use Rattle.follow.specs.Stores.{places, rowOf, IsRow, Long, Stored, HasRow, Filled, FilledMarks}
 use Rattle.follow.proofs.Masks.{shows-neither}
@@ -36,10 +35,10 @@ unfolding Pass.firstRow Pass.row
 row-once zero x = sym (items-firsts (rowSets 0 x)) ∙ firstRow-items x
 row-once (suc p) x = sym (items-firsts (rowSets (suc p) x)) ∙ row-items x p
 
-is-row : {kinds sizes : List ℕ} {end : ℕ} {r : Outcomes} (k : ℕ) → Good r → ((masks : List ℕ) → Lists r (rowSets k (part end kinds sizes masks 0 end))) → IsRow kinds sizes end k r
+is-row : {kinds sizes : List ℕ} {end : ℕ} {r : Whole} (k : ℕ) → Good r → ((masks : List ℕ) → Lists r (rowSets k (part end kinds sizes masks 0 end))) → IsRow kinds sizes end k r
 is-row {kinds} {sizes} {end} k g l = record { good = g; are = λ masks. l masks .are ∙ row-once k (part end kinds sizes masks 0 end); lists = l }
 
-module _ {kinds sizes : List ℕ} {end : ℕ} {e n r : Outcomes} (ending : Lists e (endsAt 0 neither ∷ [])) (none : Lists n []) where
+module _ {kinds sizes : List ℕ} {end : ℕ} {e n r : Whole} (ending : Lists e (endsAt 0 neither ∷ [])) (none : Lists n []) where
   pub row-start : (k : ℕ) → k ≡ 0 → Begins kinds sizes 0 end 0 e n r → IsRow kinds sizes end k r
   row-start k z c =
       rw z (is-row 0 (c .good) λ masks.
@@ -75,7 +74,7 @@ module _ (d : List ℕ) (at : ℕ) (s : List ℕ) (n : ℕ) (h : at + n ≤ leng
   place-before i l =
       rw (append-assoc (take at d) (take n s) (drop (at + n) d), List·getD-append (take at d) (take n s ++ drop (at + n) d) 0 i (omega (arith, length-take-le at d (omega arith)))) (getD-take at d i 0 l)
 
-module _ (k : ℕ) (x : Outcomes) (t u : Tables) (l : Long t) (b : k < 65) (g : Good x) (s : Stored k x t u) where
+module _ (k : ℕ) (x : Whole) (t u : Tables) (l : Long t) (b : k < 65) (g : Good x) (s : Stored k x t u) where
   stored-long : Long u
   stored-long =
       record {
@@ -95,7 +94,7 @@ module _ (k : ℕ) (x : Outcomes) (t u : Tables) (l : Long t) (b : k < 65) (g : 
         end = rw (s .ends) (getD-set-same (t .ends) k (x .end) 0 (omega (arith, l .ends)));
       }
 
-  stored-before : (j : ℕ) (y : Outcomes) → j < k → Good y → HasRow t j y → HasRow u j y
+  stored-before : (j : ℕ) (y : Whole) → j < k → Good y → HasRow t j y → HasRow u j y
   stored-before j y h gy r =
       let e : getD (u .lens) j 0 ≡ getD (t .lens) j 0 = rw (s .lens) (getD-set-other (t .lens) k j (x .len) 0 (omega arith)) in
       let f = paste-before (t .rows) (65 * k) (x .items) (x .len) (omega (arith, l .rows, g .room)) (omega (arith, g .long, g .room)) (65 * j) (y .len) (omega (arith, gy .room)) in
@@ -107,18 +106,18 @@ module _ (k : ℕ) (x : Outcomes) (t u : Tables) (l : Long t) (b : k < 65) (g : 
       }
 
 -- The masks of row k are those of x.
-abbrev HasMarks : List ℕ → ℕ → Outcomes → Type 0
+abbrev HasMarks : List ℕ → ℕ → Whole → Type 0
 HasMarks marks k x = (q : ℕ) → q ≤ 64 → getD marks (65 * k + q) 0 ≡ getD (x .marks) q 0
 
 module _ (kinds sizes : List ℕ) (end : ℕ) where
   pub filled-begin : (t : Tables) → Long t → Filled kinds sizes end 0 t
   filled-begin t l = record { long = l; rows = λ k h. absurd (omega arith) }
 
-  pub filled-more : (k : ℕ) (x : Outcomes) (t u : Tables) → k < 65 → Filled kinds sizes end k t → IsRow kinds sizes end k x → Stored k x t u → Filled kinds sizes end (k + 1) u
+  pub filled-more : (k : ℕ) (x : Whole) (t u : Tables) → k < 65 → Filled kinds sizes end k t → IsRow kinds sizes end k x → Stored k x t u → Filled kinds sizes end (k + 1) u
   filled-more k x t u b f is s =
       record {
         long = stored-long k x t u (f .long) b (is .good) s;
-        rows = below-more (λ j. (y : Outcomes) × IsRow kinds sizes end j y × HasRow u j y) k
+        rows = below-more (λ j. (y : Whole) × IsRow kinds sizes end j y × HasRow u j y) k
             (λ j l. let (y, iy, ry) = f .rows j l in (y, iy, stored-before k x t u (f .long) b (is .good) s j y l (iy .good) ry))
             (x, is, stored-here k x t u (f .long) b (is .good) s);
       }
@@ -126,13 +125,13 @@ module _ (kinds sizes : List ℕ) (end : ℕ) where
   pub marks-begin : (marks : List ℕ) → length marks ≡ 4225 → FilledMarks kinds sizes end 0 marks
   marks-begin marks l = record { long = l; rows = λ k h. absurd (omega arith) }
 
-  pub marks-more : (k : ℕ) (x : Outcomes) (marks : List ℕ) → k < 65 → FilledMarks kinds sizes end k marks → IsRow kinds sizes end k x → FilledMarks kinds sizes end (k + 1) (paste marks (65 * k) (x .marks) 65)
+  pub marks-more : (k : ℕ) (x : Whole) (marks : List ℕ) → k < 65 → FilledMarks kinds sizes end k marks → IsRow kinds sizes end k x → FilledMarks kinds sizes end (k + 1) (paste marks (65 * k) (x .marks) 65)
   marks-more k x marks b f is =
       let fits : 65 * k + 65 ≤ length marks = omega (arith, f .long) in
       let wide : 65 ≤ length (x .marks) = omega (arith, is .good .wide) in
       record {
         long = length-paste marks (65 * k) (x .marks) 65 fits wide ∙ f .long;
-        rows = below-more (λ j. (y : Outcomes) × IsRow kinds sizes end j y × HasMarks (paste marks (65 * k) (x .marks) 65) j y) k
+        rows = below-more (λ j. (y : Whole) × IsRow kinds sizes end j y × HasMarks (paste marks (65 * k) (x .marks) 65) j y) k
             (λ j l. let (y, iy, my) = f .rows j l in (y, iy, λ q s. place-before marks (65 * k) (x .marks) 65 fits wide (65 * j + q) (omega arith) ∙ my q s))
             (x, is, λ q s. place-here marks (65 * k) (x .marks) 65 fits wide q (omega arith));
       }
@@ -149,7 +148,7 @@ flag-small : (b : Bool) → flag b ≤ 1
 flag-small true = omega arith
 flag-small false = omega arith
 
-summed : (t : Tables) (k : ℕ) (x : Outcomes) → Good x → HasRow t k x → Summed t k
+summed : (t : Tables) (k : ℕ) (x : Whole) → Good x → HasRow t k x → Summed t k
 summed t k x g r =
     record {
       set = λ q h. rw (r .set, r .row) (g .set q h);

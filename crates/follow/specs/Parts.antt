@@ -11,31 +11,30 @@ use Rattle.traces.specs.Code.Pass.{Sets, item}
 use Rattle.traces.specs.Code.Sets.{joined, into, after}
 use Rattle.traces.specs.Code.Marks.{Shows, carriedBy}
 use Rattle.arrays.specs.Decoded.{part}
-use Rattle.follow.specs.declared.Outcomes.{Outcomes}
-use Rattle.follow.specs.Outcomes.{Good, Lists}
+use Rattle.follow.specs.Outcomes.{Whole, Good, Lists}
 
 -- r is the list of x, and then the outcome p with the fields that the mask b has.
-pub record Added (x : Outcomes) (p b : ℕ) (r : Outcomes) : Type 0 where
+pub record Added (x : Whole) (p b : ℕ) (r : Whole) : Type 0 where
   pub good : Good r
   pub lists : (l : List (Carried Sets)) (o : Carried Sets) → Lists x l → item o ≡ p → Shows b (carriedBy o) → Lists r (l ++ (o ∷ []))
 
 -- r is the list of x, and then that of y after the fields that the mask b has.
-pub record Joined (x y : Outcomes) (b : ℕ) (r : Outcomes) : Type 0 where
+pub record Joined (x y : Whole) (b : ℕ) (r : Whole) : Type 0 where
   pub good : Good r
   pub lists : (l m : List (Carried Sets)) (s : Sets) → Lists x l → Lists y m → Shows b s → Lists r (l ++ joined s m)
 
 -- r is the list of `out`, and then what `collect` makes of the part at the places from `low` to `end`, its ends replaced by `rest`, whatever its leaves' sets are.
-abbrev pub Collects : (List (Carried Sets) → Re → List (Carried Sets)) → List ℕ → List ℕ → ℕ → ℕ → Outcomes → Outcomes → Outcomes → Type 0
+abbrev pub Collects : (List (Carried Sets) → Re → List (Carried Sets)) → List ℕ → List ℕ → ℕ → ℕ → Whole → Whole → Whole → Type 0
 Collects collect kinds sizes low end rest out r =
     (m l : List (Carried Sets)) → Lists rest m → Lists out l → (masks : List ℕ) (f : ℕ) → end ≤ low + f → Lists r (l ++ collect m (part f kinds sizes masks low end))
 
 -- What the part can begin with, after the fields that the mask b has.
-pub record Begins (kinds sizes : List ℕ) (low end b : ℕ) (rest out r : Outcomes) : Type 0 where
+pub record Begins (kinds sizes : List ℕ) (low end b : ℕ) (rest out r : Whole) : Type 0 where
   pub good : Good r
   pub collects : (s : Sets) → Shows b s → Collects (λ m x. into m s x) kinds sizes low end rest out r
 
 -- What can follow its leaf p.
-pub record Nexts (p : ℕ) (kinds sizes : List ℕ) (low end : ℕ) (rest out r : Outcomes) : Type 0 where
+pub record Nexts (p : ℕ) (kinds sizes : List ℕ) (low end : ℕ) (rest out r : Whole) : Type 0 where
   pub good : Good r
   pub collects : Collects (λ m x. after m x p) kinds sizes low end rest out r
 

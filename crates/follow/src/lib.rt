@@ -15,9 +15,9 @@ ghost use Rattle.grammar.specs.Code.Tokens.{maxParts};
 ghost use Rattle.grammar.specs.Code.Codes.{firstField, firstLeaf};
 ghost use Rattle.arrays.specs.Decoded.{decode, middle};
 ghost use Rattle.follow.specs.Rows.{Right, Marked};
-ghost use Rattle.follow.specs.Outcomes.{listed, Good, Lists};
+ghost use Rattle.follow.specs.Outcomes.{whole, listed, Good, Lists, Blank, Holds};
 ghost use Rattle.follow.specs.Parts.{Added, Joined, Begins, Nexts, Lacks};
-ghost use Rattle.follow.specs.Stores.{places, IsRow, tablesOf, Long, Stored, Filled};
+ghost use Rattle.follow.specs.Stores.{places, IsRow, tablesOf, Long, Stores, Filled};
 use arrays::Kinds;
 use arrays::Pattern;
 use arrays::Sizes;
@@ -34,33 +34,31 @@ pub struct Tables {
     pub ends: [u8; 65],
 }
 
-// A list of outcomes, each once: 65 places are enough.
+// A list of outcomes, each once, in arrays that are lent beside it, so that no array is copied on the way: its numbers in order, and at the place of each number
+// the fields on the way to it, bit f - 1 if the field f is opened, bit f + 7 if it is closed. They are `numbers` and `fields` of a list that is read, `items` and
+// `own` of one that is written.
 struct Outcomes {
-    items: [u8; 65],
     len: usize,
     // its wanted leaves as bits
     set: u64,
     // 1 where it has the end, else 0
     end: u8,
-    // of each number of the list, the fields on the way to it: bit f - 1 if the field f is opened, bit f + 7 if it is closed
-    marks: [u16; 65],
 }
 
+// The empty list, whatever is in its arrays.
 fn none() -> Outcomes
-    ensures { λ r. ⌜ Lists r [] ⌝ }
+    ensures { λ r. ⌜ Blank r ⌝ }
 {
     Outcomes {
-        items: [0u8; 65],
         len: 0,
         set: 0,
         end: 0,
-        marks: [0u16; 65],
     }
 }
 
 fn holds(x: Outcomes, p: u8) -> bool
-    requires { ⌜ (p ≤ 64) × Good x ⌝ }
-    ensures { λ r. ⌜ r ≡ member p (listed x) ⌝ }
+    requires { ⌜ p ≤ 64 ⌝ }
+    ensures { λ r. ⌜ Holds x p r ⌝ }
 {
     if p == 0 {
         return x.end == 1;
@@ -69,65 +67,87 @@ fn holds(x: Outcomes, p: u8) -> bool
 }
 
 // The list with a number that it does not have.
-fn append(x: Outcomes, p: u8, marks: u16) -> Outcomes
-    requires { ⌜ (p ≤ 64) × Good x × (member p (listed x) ≡ false) ⌝ }
-    ensures { λ r. ⌜ Added x p marks r ⌝ }
+fn append(x: Outcomes, p: u8, marks: u16, items: &mut [u8; 65], own: &mut [u16; 65]) -> Outcomes
+    requires { ⌜ (p ≤ 64) × Good (whole x (now items) (now own)) × (member p (listed (whole x (now items) (now own))) ≡ false) ⌝ }
+    ensures { λ r. ⌜ Added (whole x (now (items .entry)) (now (own .entry))) p marks (whole r (now (items .exit)) (now (own .exit))) ⌝ }
 {
     let n = x.len;
     let q = words::wide(p);
-    let mut r = x;
-    r.items[n] = p;
-    r.len = n + 1;
-    r.marks[q] = marks;
+    items[n] = p;
+    own[q] = marks;
     if p == 0 {
-        r.end = 1;
-        return r;
+        return Outcomes {
+            len: n + 1,
+            set: x.set,
+            end: 1,
+        };
     }
-    r.set = words::with(x.set, words::wide(p) - 1);
-    r
+    Outcomes {
+        len: n + 1,
+        set: words::with(x.set, words::wide(p) - 1),
+        end: x.end,
+    }
 }
 
 // What a list has already stays as it came first.
-fn add(x: Outcomes, p: u8, marks: u16) -> Outcomes
-    requires { ⌜ (p ≤ 64) × Good x ⌝ }
-    ensures { λ r. ⌜ Added x p marks r ⌝ }
+fn add(x: Outcomes, p: u8, marks: u16, items: &mut [u8; 65], own: &mut [u16; 65]) -> Outcomes
+    requires { ⌜ (p ≤ 64) × Good (whole x (now items) (now own)) ⌝ }
+    ensures { λ r. ⌜ Added (whole x (now (items .entry)) (now (own .entry))) p marks (whole r (now (items .exit)) (now (own .exit))) ⌝ }
 {
     if holds(x, p) {
         return x;
     }
-    append(x, p, marks)
+    append(x, p, marks, items, own)
 }
 
 // The outcome i of y, after the fields `marks`.
-fn add_from(x: Outcomes, y: Outcomes, i: usize, marks: u16) -> Outcomes
-    requires { ⌜ (i < y .len) × Good x × Good y ⌝ }
-    ensures { λ r. ⌜ Added x (getD (y .items) i 0) (bitOr marks (getD (y .marks) (getD (y .items) i 0) 0)) r ⌝ }
+fn add_from<'a>(
+    x: Outcomes,
+    y: Outcomes,
+    i: usize,
+    marks: u16,
+    numbers: &'a [u8; 65],
+    fields: &'a [u16; 65],
+    items: &mut [u8; 65],
+    own: &mut [u16; 65],
+) -> Outcomes
+    requires { ⌜ (i < y .len) × Good (whole x (now items) (now own)) × Good (whole y (now numbers) (now fields)) ⌝ }
+    ensures { λ r. ⌜ Added (whole x (now (items .entry)) (now (own .entry))) (getD (now (numbers .entry)) i 0) (bitOr marks (getD (now (fields .entry)) (getD (now (numbers .entry)) i 0) 0)) (whole r (now (items .exit)) (now (own .exit))) ⌝ }
 {
-    let p = y.items[i];
-    let own = y.marks[words::wide(p)];
-    add(x, p, words::union_u16(marks, own))
+    let p = numbers[i];
+    let before = fields[words::wide(p)];
+    add(x, p, words::union_u16(marks, before), items, own)
 }
 
 // The list x, and then the list y after the fields `marks`.
-fn join(x: Outcomes, y: Outcomes, marks: u16) -> Outcomes
-    requires { ⌜ Good x × Good y ⌝ }
-    ensures { λ r. ⌜ Joined x y marks r ⌝ }
+fn join<'a>(
+    x: Outcomes,
+    y: Outcomes,
+    marks: u16,
+    numbers: &'a [u8; 65],
+    fields: &'a [u16; 65],
+    items: &mut [u8; 65],
+    own: &mut [u16; 65],
+) -> Outcomes
+    requires { ⌜ Good (whole x (now items) (now own)) × Good (whole y (now numbers) (now fields)) ⌝ }
+    ensures { λ r. ⌜ Joined (whole x (now (items .entry)) (now (own .entry))) (whole y (now (numbers .entry)) (now (fields .entry))) marks (whole r (now (items .exit)) (now (own .exit))) ⌝ }
 {
     let n = y.len;
     let mut r = x;
     let mut i = 0;
     while i < n {
-        r = add_from(r, y, i, marks);
+        r = add_from(r, y, i, marks, numbers, fields, items, own);
         i += 1;
     }
     r
 }
 
 // The list that is only the end.
-fn ending() -> Outcomes
-    ensures { λ r. ⌜ Lists r (end 0 neither) ⌝ }
+fn ending(items: &mut [u8; 65], own: &mut [u16; 65]) -> Outcomes
+    requires { ⌜ (length (now items) ≡ 65) × (length (now own) ≡ 65) ⌝ }
+    ensures { λ r. ⌜ Lists (whole r (now (items .exit)) (now (own .exit))) (end 0 neither) ⌝ }
 {
-    add(none(), 0, 0)
+    add(none(), 0, 0, items, own)
 }
 
 // The masks of a field by the kind of its part.
@@ -168,43 +188,130 @@ fn closure<'a>(
     end: usize,
     marks: u16,
     rest: Outcomes,
+    numbers: &'a [u8; 65],
+    fields: &'a [u16; 65],
     out: Outcomes,
+    items: &mut [u8; 65],
+    own: &mut [u16; 65],
 ) -> Outcomes
-    requires { ⌜ (end ≤ maxParts) × Good rest × Good out ⌝ }
-    ensures { λ r. ⌜ Begins (now (kinds .entry)) (now (sizes .entry)) low end marks rest out r ⌝ }
+    requires { ⌜ (end ≤ maxParts) × Good (whole rest (now numbers) (now fields)) × Good (whole out (now items) (now own)) ⌝ }
+    ensures { λ r. ⌜ Begins (now (kinds .entry)) (now (sizes .entry)) low end marks (whole rest (now (numbers .entry)) (now (fields .entry))) (whole out (now (items .entry)) (now (own .entry))) (whole r (now (items .exit)) (now (own .exit))) ⌝ }
 {
     if end <= low {
-        return join(out, rest, marks);
+        return join(out, rest, marks, numbers, fields, items, own);
     }
     let last = end - 1;
     let kind = kinds[last];
     if kind == Pattern::EMPTY {
-        return join(out, rest, marks);
+        return join(out, rest, marks, numbers, fields, items, own);
     }
     if Pattern::LAST_LEAF < kind {
-        return join(out, rest, marks);
+        return join(out, rest, marks, numbers, fields, items, own);
     }
     if Pattern::FIRST_LEAF <= kind {
         // the leaf's number and one
-        return add(out, kind - Pattern::FIRST_LEAF + 1, marks);
-    }
-    if Pattern::FIRST_FIELD <= kind {
-        let closed = join(none(), rest, closing(kind));
-        let opened = words::union_u16(opening(kind), marks);
-        return closure(kinds, sizes, low, last, opened, closed, out);
+        return add(out, kind - Pattern::FIRST_LEAF + 1, marks, items, own);
     }
     if kind == Pattern::STAR {
         // the end of an empty turn is the repeat's, in its place
-        let turns = closure(kinds, sizes, low, last, marks, rest, out);
-        return join(turns, rest, marks);
+        let turns = closure(
+            kinds,
+            sizes,
+            low,
+            last,
+            marks,
+            rest,
+            numbers,
+            fields,
+            out,
+            items,
+            own,
+        );
+        return join(turns, rest, marks, numbers, fields, items, own);
     }
     let m = middle(sizes, low, last);
-    if kind == Pattern::SEQUENCE {
-        let right = closure(kinds, sizes, m, last, 0, rest, none());
-        return closure(kinds, sizes, low, m, marks, right, out);
+    if kind == Pattern::ALTERNATION {
+        let left = closure(
+            kinds,
+            sizes,
+            low,
+            m,
+            marks,
+            rest,
+            numbers,
+            fields,
+            out,
+            items,
+            own,
+        );
+        return closure(
+            kinds,
+            sizes,
+            m,
+            last,
+            marks,
+            rest,
+            numbers,
+            fields,
+            left,
+            items,
+            own,
+        );
     }
-    let left = closure(kinds, sizes, low, m, marks, rest, out);
-    closure(kinds, sizes, m, last, marks, rest, left)
+    // for what a left part or a field goes on with: one pair for both, so that a step of the recursion takes less of the stack
+    let mut next = [0u8; 65];
+    let mut before = [0u16; 65];
+    if kind == Pattern::SEQUENCE {
+        let right = closure(
+            kinds,
+            sizes,
+            m,
+            last,
+            0,
+            rest,
+            numbers,
+            fields,
+            none(),
+            &mut next,
+            &mut before,
+        );
+        return closure(
+            kinds,
+            sizes,
+            low,
+            m,
+            marks,
+            right,
+            &next,
+            &before,
+            out,
+            items,
+            own,
+        );
+    }
+    let closed = join(
+        none(),
+        rest,
+        closing(kind),
+        numbers,
+        fields,
+        &mut next,
+        &mut before,
+    );
+    let opened = words::union_u16(opening(kind), marks);
+    closure(
+        kinds,
+        sizes,
+        low,
+        last,
+        opened,
+        closed,
+        &next,
+        &before,
+        out,
+        items,
+        own,
+    )
 }
 
 // Whether no place from low to end has that kind: then a part there has no such leaf.
@@ -230,10 +337,14 @@ fn after<'a>(
     end: usize,
     p: u8,
     rest: Outcomes,
+    numbers: &'a [u8; 65],
+    fields: &'a [u16; 65],
     out: Outcomes,
+    items: &mut [u8; 65],
+    own: &mut [u16; 65],
 ) -> Outcomes
-    requires { ⌜ (end ≤ maxParts) × (p < 64) × Good rest × Good out ⌝ }
-    ensures { λ r. ⌜ Nexts p (now (kinds .entry)) (now (sizes .entry)) low end rest out r ⌝ }
+    requires { ⌜ (end ≤ maxParts) × (p < 64) × Good (whole rest (now numbers) (now fields)) × Good (whole out (now items) (now own)) ⌝ }
+    ensures { λ r. ⌜ Nexts p (now (kinds .entry)) (now (sizes .entry)) low end (whole rest (now (numbers .entry)) (now (fields .entry))) (whole out (now (items .entry)) (now (own .entry))) (whole r (now (items .exit)) (now (own .exit))) ⌝ }
 {
     if lacks(kinds, low, end, Pattern::FIRST_LEAF + p) {
         return out;
@@ -241,7 +352,7 @@ fn after<'a>(
     let last = end - 1;
     let kind = kinds[last];
     if kind == Pattern::FIRST_LEAF + p {
-        return join(out, rest, 0);
+        return join(out, rest, 0, numbers, fields, items, own);
     }
     if Pattern::FIRST_LEAF <= kind {
         return out;
@@ -249,26 +360,145 @@ fn after<'a>(
     if kind == Pattern::EMPTY {
         return out;
     }
-    if Pattern::FIRST_FIELD <= kind {
-        let closed = join(none(), rest, closing(kind));
-        return after(kinds, sizes, low, last, p, closed, out);
-    }
-    if kind == Pattern::STAR {
-        let again = closure(kinds, sizes, low, end, 0, rest, none());
-        return after(kinds, sizes, low, last, p, again, out);
-    }
     let m = middle(sizes, low, last);
+    if kind == Pattern::ALTERNATION {
+        let left = after(
+            kinds,
+            sizes,
+            low,
+            m,
+            p,
+            rest,
+            numbers,
+            fields,
+            out,
+            items,
+            own,
+        );
+        return after(
+            kinds,
+            sizes,
+            m,
+            last,
+            p,
+            rest,
+            numbers,
+            fields,
+            left,
+            items,
+            own,
+        );
+    }
+    // for what a left part, a turn or a field goes on with
+    let mut next = [0u8; 65];
+    let mut before = [0u16; 65];
     if kind == Pattern::SEQUENCE {
         // the right part's list is made only for a leaf of the left one
         if lacks(kinds, low, m, Pattern::FIRST_LEAF + p) {
-            return after(kinds, sizes, m, last, p, rest, out);
+            return after(
+                kinds,
+                sizes,
+                m,
+                last,
+                p,
+                rest,
+                numbers,
+                fields,
+                out,
+                items,
+                own,
+            );
         }
-        let right = closure(kinds, sizes, m, last, 0, rest, none());
-        let left = after(kinds, sizes, low, m, p, right, out);
-        return after(kinds, sizes, m, last, p, rest, left);
+        let right = closure(
+            kinds,
+            sizes,
+            m,
+            last,
+            0,
+            rest,
+            numbers,
+            fields,
+            none(),
+            &mut next,
+            &mut before,
+        );
+        let left = after(
+            kinds,
+            sizes,
+            low,
+            m,
+            p,
+            right,
+            &next,
+            &before,
+            out,
+            items,
+            own,
+        );
+        return after(
+            kinds,
+            sizes,
+            m,
+            last,
+            p,
+            rest,
+            numbers,
+            fields,
+            left,
+            items,
+            own,
+        );
     }
-    let left = after(kinds, sizes, low, m, p, rest, out);
-    after(kinds, sizes, m, last, p, rest, left)
+    if kind == Pattern::STAR {
+        let again = closure(
+            kinds,
+            sizes,
+            low,
+            end,
+            0,
+            rest,
+            numbers,
+            fields,
+            none(),
+            &mut next,
+            &mut before,
+        );
+        return after(
+            kinds,
+            sizes,
+            low,
+            last,
+            p,
+            again,
+            &next,
+            &before,
+            out,
+            items,
+            own,
+        );
+    }
+    let closed = join(
+        none(),
+        rest,
+        closing(kind),
+        numbers,
+        fields,
+        &mut next,
+        &mut before,
+    );
+    after(
+        kinds,
+        sizes,
+        low,
+        last,
+        p,
+        closed,
+        &next,
+        &before,
+        out,
+        items,
+        own,
+    )
 }
 
 // How many places there are: none where the array has fewer.
@@ -283,14 +513,48 @@ fn places(kinds: &Kinds, len: usize) -> usize
 }
 
 // Row k: the start's, or that of the leaf k - 1.
-fn row_of<'a>(kinds: &'a Kinds, sizes: &'a Sizes, end: usize, k: u8) -> Outcomes
-    requires { ⌜ (end ≤ maxParts) × (k ≤ 64) ⌝ }
-    ensures { λ r. ⌜ IsRow (now (kinds .entry)) (now (sizes .entry)) end k r ⌝ }
+fn row_of<'a>(
+    kinds: &'a Kinds,
+    sizes: &'a Sizes,
+    end: usize,
+    k: u8,
+    items: &mut [u8; 65],
+    own: &mut [u16; 65],
+) -> Outcomes
+    requires { ⌜ (end ≤ maxParts) × (k ≤ 64) × (length (now items) ≡ 65) × (length (now own) ≡ 65) ⌝ }
+    ensures { λ r. ⌜ IsRow (now (kinds .entry)) (now (sizes .entry)) end k (whole r (now (items .exit)) (now (own .exit))) ⌝ }
 {
+    let mut end_items = [0u8; 65];
+    let mut end_own = [0u16; 65];
+    let last = ending(&mut end_items, &mut end_own);
     if k == 0 {
-        return closure(kinds, sizes, 0, end, 0, ending(), none());
+        return closure(
+            kinds,
+            sizes,
+            0,
+            end,
+            0,
+            last,
+            &end_items,
+            &end_own,
+            none(),
+            items,
+            own,
+        );
     }
-    after(kinds, sizes, 0, end, k - 1, ending(), none())
+    after(
+        kinds,
+        sizes,
+        0,
+        end,
+        k - 1,
+        last,
+        &end_items,
+        &end_own,
+        none(),
+        items,
+        own,
+    )
 }
 
 fn copy(items: &[u8; 65], n: usize, at: usize, rows: &mut [u8; 4225])
@@ -314,17 +578,17 @@ fn narrow(n: usize) -> u8
 
 fn store(
     x: Outcomes,
+    items: &[u8; 65],
     k: usize,
     rows: &mut [u8; 4225],
     lens: &mut [u8; 65],
     sets: &mut [u64; 65],
     ends: &mut [u8; 65],
 )
-    requires { ⌜ (k < 65) × Good x × Long (tablesOf (now rows) (now lens) (now sets) (now ends)) ⌝ }
-    ensures { λ _. ⌜ Stored k x (tablesOf (now (rows .entry)) (now (lens .entry)) (now (sets .entry)) (now (ends .entry))) (tablesOf (now (rows .exit)) (now (lens .exit)) (now (sets .exit)) (now (ends .exit))) ⌝ }
+    requires { ⌜ (k < 65) × (x .len ≤ 65) × (length (now items) ≡ 65) × Long (tablesOf (now rows) (now lens) (now sets) (now ends)) ⌝ }
+    ensures { λ _. ⌜ Stores k x (now (items .entry)) (tablesOf (now (rows .entry)) (now (lens .entry)) (now (sets .entry)) (now (ends .entry))) (tablesOf (now (rows .exit)) (now (lens .exit)) (now (sets .exit)) (now (ends .exit))) ⌝ }
 {
-    let items = x.items;
-    copy(&items, x.len, 65 * k, rows);
+    copy(items, x.len, 65 * k, rows);
     lens[k] = narrow(x.len);
     sets[k] = x.set;
     ends[k] = x.end;
@@ -343,10 +607,12 @@ fn fill<'a>(
     requires { ⌜ (end ≤ maxParts) × Long (tablesOf (now rows) (now lens) (now sets) (now ends)) ⌝ }
     ensures { λ _. ⌜ Filled (now (kinds .entry)) (now (sizes .entry)) end 65 (tablesOf (now (rows .exit)) (now (lens .exit)) (now (sets .exit)) (now (ends .exit))) ⌝ }
 {
+    let mut items = [0u8; 65];
+    let mut own = [0u16; 65];
     let mut k = 0u8;
     while k < 65 {
-        let x = row_of(kinds, sizes, end, k);
-        store(x, words::wide(k), rows, lens, sets, ends);
+        let x = row_of(kinds, sizes, end, k, &mut items, &mut own);
+        store(x, &items, words::wide(k), rows, lens, sets, ends);
         k += 1;
     }
 }
@@ -377,14 +643,14 @@ pub fn tables_of(x: Pattern) -> Tables
     }
 }
 
-fn copy_marks(x: Outcomes, k: usize, marks: &mut [u16; 4225])
-    requires { ⌜ (k < 65) × Good x × (length (now marks) ≡ 4225) ⌝ }
-    ensures { λ _. ⌜ now (marks .exit) ≡ paste (now (marks .entry)) (65 * k) (x .marks) 65 ⌝ }
+fn copy_marks(own: &[u16; 65], k: usize, marks: &mut [u16; 4225])
+    requires { ⌜ (k < 65) × (length (now own) ≡ 65) × (length (now marks) ≡ 4225) ⌝ }
+    ensures { λ _. ⌜ now (marks .exit) ≡ paste (now (marks .entry)) (65 * k) (now (own .entry)) 65 ⌝ }
 {
     let at = 65 * k;
     let mut q = 0;
     while q < 65 {
-        let m = x.marks[q];
+        let m = own[q];
         marks[at + q] = m;
         q += 1;
     }
@@ -397,10 +663,12 @@ pub fn marks_of(x: Pattern, marks: &mut [u16; 4225])
     // made anew, for a check does not know the length of an array that is lent
     *marks = [0u16; 4225];
     let end = places(&x.kinds, x.len);
+    let mut items = [0u8; 65];
+    let mut own = [0u16; 65];
     let mut k = 0u8;
     while k < 65 {
-        let row = row_of(&x.kinds, &x.sizes, end, k);
-        copy_marks(row, words::wide(k), marks);
+        row_of(&x.kinds, &x.sizes, end, k, &mut items, &mut own);
+        copy_marks(&own, words::wide(k), marks);
         k += 1;
     }
 }

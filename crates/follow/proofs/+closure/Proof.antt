@@ -1,6 +1,7 @@
 -- `follow::closure`, which calls itself, meets its contract. The measure is the part's places. Each answer is a law of `Begins`, by the kind of the part's last place.
 -- Assumes nothing.
-use Rattle.follow.proofs.Parts.{two}
+use Rattle.follow.proofs.Lists.{fresh}
+use Rattle.follow.proofs.Parts.{past-three}
 use Rattle.follow.proofs.Begins.{closure-none, closure-empty, closure-beyond, closure-leaf, closure-field, closure-star, closure-seq, closure-alt}
 use native.Mathlib.Omega.{arith}
 use borrow.Author.Needs.{needs}
@@ -20,87 +21,142 @@ use Rattle.words.proofs.union_u16.Reads as union-u16-reads
 use Rattle.follow.proofs.+closure.{statement}
 use Rattle.follow.proofs.+closure.Tie.{close}
 
-abbrev μ-closure : Measures 1 closure-kinds.ps ℕ
+abbrev μ-closure : Measures 3 closure-kinds.ps ℕ
 μ-closure κs a = a .1 .1 .1 .0 - a .1 .1 .0
 
-abbrev closure-at : ℕ → In 1 closure-kinds.ps
-closure-at t = and 1 closure-kinds.ps (is 1 closure-kinds.ps μ-closure t) closure.Pre
+abbrev closure-at : ℕ → In 3 closure-kinds.ps
+closure-at t = and 3 closure-kinds.ps (is 3 closure-kinds.ps μ-closure t) closure.Pre
 
-abbrev closure-below : ℕ → In 1 closure-kinds.ps
-closure-below t = and 1 closure-kinds.ps (falls 1 closure-kinds.ps _<_ μ-closure t) closure.Pre
+abbrev closure-below : ℕ → In 3 closure-kinds.ps
+closure-below t = and 3 closure-kinds.ps (falls 3 closure-kinds.ps _<_ μ-closure t) closure.Pre
 
 abbrev callees-closure : ℕ → closure-lts.Claims
-callees-closure t = (join-reads.Asked, join-reads.Learnt, add-reads.Asked, add-reads.Learnt, none-reads.Asked, none-reads.Learnt, closing-reads.Asked, closing-reads.Learnt, opening-reads.Asked, opening-reads.Learnt, union-u16-reads.Asked, union-u16-reads.Learnt, closure-below t, closure.Post, middle-reads.Asked, middle-reads.Learnt)
+callees-closure t = (join-reads.Asked, join-reads.Learnt, add-reads.Asked, add-reads.Learnt, closure-below t, closure.Post, middle-reads.Asked, middle-reads.Learnt, none-reads.Asked, none-reads.Learnt, closing-reads.Asked, closing-reads.Learnt, opening-reads.Asked, opening-reads.Learnt, union-u16-reads.Asked, union-u16-reads.Learnt)
 
 closure-returns : (t : ℕ) → closure-lts.Need-returns (callees-closure t) (closure-at t) closure.Post
-closure-returns t c = closure-none (c .before .if1 .taken) (c .join .ensures)
+closure-returns t c =
+    let c3 = c .before .before .before in
+    closure-none (c3 .if1 .taken) (c .join .ensures)
 
 closure-returns-2 : (t : ℕ) → closure-lts.Need-returns-2 (callees-closure t) (closure-at t) closure.Post
-closure-returns-2 t c = closure-empty (omega (arith, c .before .before .before .if1 .left)) (c .before .if2 .taken) (c .join2 .ensures)
+closure-returns-2 t c =
+    let c3 = c .before .before .before in
+    closure-empty (omega (arith, c3 .before .before .if1 .left)) (c3 .if2 .taken) (c .join2 .ensures)
 
 closure-returns-3 : (t : ℕ) → closure-lts.Need-returns-3 (callees-closure t) (closure-at t) closure.Post
 closure-returns-3 t c =
-    let c4 = c .before .before .before .before in
-    closure-beyond (omega (arith, c4 .if1 .left)) (c .before .if3 .taken) (c .join3 .ensures)
+    let c3 = c .before .before .before in
+    let c6 = c3 .before .before .before in
+    closure-beyond (omega (arith, c6 .if1 .left)) (c3 .if3 .taken) (c .join3 .ensures)
 
 closure-returns-4 : (t : ℕ) → closure-lts.Need-returns-4 (callees-closure t) (closure-at t) closure.Post
 closure-returns-4 t c =
-    let c5 = c .before .before .before .before .before in
-    closure-leaf (omega (arith, c5 .if1 .left)) (c .before .if4 .taken) (omega (arith, c .before .before .if3 .left)) (c .add .ensures)
+    let c3 = c .before .before .before in
+    let c7 = c3 .before .before .before .before in
+    closure-leaf (omega (arith, c7 .if1 .left)) (c3 .if4 .taken) (omega (arith, c3 .before .if3 .left)) (c .add .ensures)
 
 closure-closure-requires : (t : ℕ) → closure-lts.Need-closure-requires (callees-closure t) (closure-at t) closure.Post
 closure-closure-requires t c κs =
-    let c10 = c .before .before .before .before .before .before .before .before .before .before in
-    let s = c10 .before in
-    let h = c10 .if1 .left in
-    (omega (arith, s .pre .0, h), (omega (arith, s .pre .1 .0), c .before .before .join4 .ensures .good, s .pre .1 .2))
+    let c7 = c .before .before .before .before .before .before .before in
+    let s = c7 .before in
+    (omega (arith, s .pre .0, c7 .if1 .left), (omega (arith, s .pre .1 .0), s .pre .1 .1, s .pre .1 .2))
+
+closure-join-requires-4 : (t : ℕ) → closure-lts.Need-join-requires-4 (callees-closure t) (closure-at t) closure.Post
+closure-join-requires-4 t c κs =
+    let s = c .before .before .before .before .before .before .before .before .before .before .before in
+    (c .before .before .closure .ensures .good, s .pre .1 .1)
 
 closure-returns-5 : (t : ℕ) → closure-lts.Need-returns-5 (callees-closure t) (closure-at t) closure.Post
 closure-returns-5 t c =
     let c3 = c .before .before .before in
-    let c11 = c3 .before .before .before .before .before .before .before .before in
-    let closed = rw (c3 .before .closing .ensures) at (c3 .join4 .ensures) in
-    let inner = rw (c .before .union-u16 .ensures, c .before .before .opening .ensures) at (c .closure .ensures) in
-    closure-field (omega (arith, c11 .if1 .left)) (c3 .before .before .before .if5 .taken) (omega (arith, c3 .before .before .before .before .if4 .left)) (c3 .before .before .none .ensures) closed inner
+    let c6 = c3 .before .before .before in
+    let c11 = c6 .before .before .before .before .before in
+    closure-star (omega (arith, c11 .if1 .left)) (c6 .if5 .taken) (c3 .closure .ensures) (c .join4 .ensures)
 
-closure-returns-6 : (t : ℕ) → closure-lts.Need-returns-6 (callees-closure t) (closure-at t) closure.Post
-closure-returns-6 t c =
-    let c8 = c .before .before .before .before .before .before .before .before in
-    closure-star (omega (arith, c8 .if1 .left)) (c .before .before .if6 .taken) (c .before .closure2 .ensures) (c .join5 .ensures)
+closure-closure-requires-2 : (t : ℕ) → closure-lts.Need-closure-requires-2 (callees-closure t) (closure-at t) closure.Post
+closure-closure-requires-2 t c κs =
+    let c3 = c .before .before .before in
+    let c9 = c3 .before .before .before .before .before .before in
+    let s = c9 .before in
+    let h = c9 .if1 .left in
+    (omega (arith, s .pre .0, c3 .middle .ensures, h), (omega (arith, s .pre .1 .0, c3 .middle .ensures, h), s .pre .1 .1, s .pre .1 .2))
 
 closure-closure-requires-3 : (t : ℕ) → closure-lts.Need-closure-requires-3 (callees-closure t) (closure-at t) closure.Post
 closure-closure-requires-3 t c κs =
-    let c9 = c .before .before .before .before .before .before .before .before .before in
-    let s = c9 .before in
-    let h = c9 .if1 .left in
-    (omega (arith, s .pre .0, c .before .before .middle .ensures, h), (omega (arith, s .pre .1 .0), s .pre .1 .1, c .none2 .ensures .good))
+    let c6 = c .before .before .before .before .before .before in
+    let c12 = c6 .before .before .before .before .before .before in
+    let s = c12 .before in
+    let h = c12 .if1 .left in
+    (omega (arith, s .pre .0, c6 .middle .ensures, h), (omega (arith, s .pre .1 .0), s .pre .1 .1, c .before .before .closure2 .ensures .good))
+
+closure-returns-6 : (t : ℕ) → closure-lts.Need-returns-6 (callees-closure t) (closure-at t) closure.Post
+closure-returns-6 t c =
+    let c3 = c .before .before .before in
+    let c6 = c3 .before .before .before in
+    let c13 = c6 .before .before .before .before .before .before .before in
+    closure-alt (omega (arith, c13 .if1 .left)) (c6 .before .middle .ensures) (c6 .if6 .taken) (c3 .closure2 .ensures) (c .closure3 .ensures)
 
 closure-closure-requires-4 : (t : ℕ) → closure-lts.Need-closure-requires-4 (callees-closure t) (closure-at t) closure.Post
 closure-closure-requires-4 t c κs =
-    let c3 = c .before .before .before in
-    let c10 = c3 .before .before .before .before .before .before .before in
-    let s = c10 .before in
-    let h = c10 .if1 .left in
-    (omega (arith, s .pre .0, c3 .middle .ensures, h), (omega (arith, s .pre .1 .0, c3 .middle .ensures, h), c .closure3 .ensures .good, s .pre .1 .2))
+    let c5 = c .before .before .before .before .before in
+    let c11 = c5 .before .before .before .before .before .before in
+    let s = c11 .before in
+    let h = c11 .if1 .left in
+    (omega (arith, s .pre .0, c5 .middle .ensures, h), (omega (arith, s .pre .1 .0), s .pre .1 .1, c .before .before .none .ensures _ _ fresh fresh .good))
+
+closure-closure-requires-5 : (t : ℕ) → closure-lts.Need-closure-requires-5 (callees-closure t) (closure-at t) closure.Post
+closure-closure-requires-5 t c κs =
+    let c4 = c .before .before .before .before in
+    let c10 = c4 .before .before .before .before .before .before in
+    let c16 = c10 .before .before .before .before .before .before in
+    let s = c16 .before in
+    let h = c16 .if1 .left in
+    (omega (arith, s .pre .0, c10 .middle .ensures, h), (omega (arith, s .pre .1 .0, c10 .middle .ensures, h), c4 .closure4 .ensures .good, s .pre .1 .2))
 
 closure-returns-7 : (t : ℕ) → closure-lts.Need-returns-7 (callees-closure t) (closure-at t) closure.Post
 closure-returns-7 t c =
+    let c5 = c .before .before .before .before .before in
+    let c8 = c5 .before .before .before in
+    let c11 = c8 .before .before .before in
+    let c17 = c11 .before .before .before .before .before .before in
+    closure-seq (omega (arith, c17 .if1 .left)) (c11 .middle .ensures) (c8 .before .if7 .taken) (c8 .none .ensures _ _ fresh fresh) (c5 .closure4 .ensures) (c .closure5 .ensures)
+
+closure-closing-requires : (t : ℕ) → closure-lts.Need-closing-requires (callees-closure t) (closure-at t) closure.Post
+closure-closing-requires t c κs =
+    let c4 = c .before .before .before .before in
+    let c7 = c4 .before .before .before in
+    (past-three _ (c7 .if2 .left) (c4 .if5 .left) (c .before .before .if6 .left) (c .before .if7 .left), omega (arith, c4 .before .if4 .left))
+
+closure-join-requires-5 : (t : ℕ) → closure-lts.Need-join-requires-5 (callees-closure t) (closure-at t) closure.Post
+closure-join-requires-5 t c κs =
     let c3 = c .before .before .before in
-    let c11 = c3 .before .before .before .before .before .before .before .before in
-    closure-seq (omega (arith, c11 .if1 .left)) (c3 .before .middle .ensures) (c3 .if7 .taken) (c .before .before .none2 .ensures) (c .before .closure3 .ensures) (c .closure4 .ensures)
+    let s = c3 .before .before .before .before .before .before .before .before .before .before in
+    (c3 .none2 .ensures _ _ fresh fresh .good, s .pre .1 .1)
+
+closure-opening-requires : (t : ℕ) → closure-lts.Need-opening-requires (callees-closure t) (closure-at t) closure.Post
+closure-opening-requires t c κs =
+    let c5 = c .before .before .before .before .before in
+    let c8 = c5 .before .before .before in
+    let c11 = c8 .before .before .before in
+    (past-three _ (c11 .if2 .left) (c8 .if5 .left) (c5 .before .if6 .left) (c5 .if7 .left), omega (arith, c8 .before .if4 .left))
 
 closure-closure-requires-6 : (t : ℕ) → closure-lts.Need-closure-requires-6 (callees-closure t) (closure-at t) closure.Post
 closure-closure-requires-6 t c κs =
-    let c9 = c .before .before .before .before .before .before .before .before .before in
-    let s = c9 .before in
-    let h = c9 .if1 .left in
-    (omega (arith, s .pre .0, c .before .before .middle .ensures, h), (omega (arith, s .pre .1 .0), s .pre .1 .1, c .closure5 .ensures .good))
+    let c6 = c .before .before .before .before .before .before in
+    let c19 = c6 .before .before .before .before .before .before .before .before .before .before .before .before .before in
+    let s = c19 .before in
+    (omega (arith, s .pre .0, c19 .if1 .left), (omega (arith, s .pre .1 .0), c6 .join5 .ensures .good, s .pre .1 .2))
 
 closure-returns-8 : (t : ℕ) → closure-lts.Need-returns-8 (callees-closure t) (closure-at t) closure.Post
 closure-returns-8 t c =
-    let c3 = c .before .before .before in
-    let c10 = c3 .before .before .before .before .before .before .before in
-    closure-alt (omega (arith, c10 .if1 .left)) (c3 .middle .ensures) (two _ (c3 .before .before .before .before .before .if2 .left) (c3 .before .if6 .left) (c .before .before .if7 .left) (c3 .before .before .if5 .left)) (c .before .closure5 .ensures) (c .closure6 .ensures)
+    let c5 = c .before .before .before .before .before in
+    let c10 = c5 .before .before .before .before .before in
+    let c13 = c10 .before .before .before in
+    let c16 = c13 .before .before .before in
+    let c20 = c16 .before .before .before .before in
+    let closed = rw (c10 .closing .ensures) at (c5 .before .before .join5 .ensures) in
+    let inner = rw (c5 .union-u16 .ensures, c5 .before .opening .ensures) at (c .closure6 .ensures) in
+    closure-field (omega (arith, c20 .if1 .left)) (past-three _ (c16 .before .before .if2 .left) (c13 .before .before .if5 .left) (c13 .if6 .left) (c10 .before .before .if7 .left)) (omega (arith, c16 .if4 .left)) (c10 .before .none2 .ensures _ _ fresh fresh) closed inner
 
 pub +closure-spec : {M : Type 1} → statement M
 +closure-spec = close μ-closure λ t. closure-lts.spec (callees-closure t) (closure-at t)
@@ -116,21 +172,21 @@ pub +closure-spec : {M : Type 1} → statement M
     (λ c. search needs)
     (λ c κs. search needs)
     (closure-returns-4 t)
-    (λ c κs. search needs)
-    (λ c κs. search needs)
-    (λ c κs. search needs)
-    (λ c κs. search needs)
-    (λ c κs. search needs)
     (closure-closure-requires t)
+    (closure-join-requires-4 t)
     (closure-returns-5 t)
     (λ c κs. search needs)
-    (λ c κs. search needs)
+    (closure-closure-requires-2 t)
+    (closure-closure-requires-3 t)
     (closure-returns-6 t)
     (λ c κs. search needs)
-    (λ c κs. search needs)
-    (closure-closure-requires-3 t)
     (closure-closure-requires-4 t)
+    (closure-closure-requires-5 t)
     (closure-returns-7 t)
+    (λ c κs. search needs)
+    (closure-closing-requires t)
+    (closure-join-requires-5 t)
+    (closure-opening-requires t)
     (λ c κs. search needs)
     (closure-closure-requires-6 t)
     (closure-returns-8 t)

@@ -10,27 +10,28 @@ use Rattle.follow.proofs.copy_marks.Statement.{statement}
 use Rattle.follow.proofs.copy_marks.Tie as tie
 
 abbrev Inv-loop : tie.InvT-loop
-Inv-loop k marks₀ x at q₀ marks q = (q ≤ 65) × (marks ≡ paste marks₀ at (x .marks) q)
+Inv-loop own k marks₀ at q₀ marks q = (q ≤ 65) × (marks ≡ paste marks₀ at own q)
 
 abbrev μ-loop : tie.MeasureT-loop
-μ-loop k marks₀ x at q₀ marks q = 65 - q
+μ-loop own k marks₀ at q₀ marks q = 65 - q
 
 loop-holds : tie.Need-loop-holds Inv-loop μ-loop
-loop-holds c = let a = c .args in (omega arith, paste-zero (a .marks .now) (65 * a .k) (a .t1 .marks))
+loop-holds c = (omega arith, paste-zero (c .args .marks .now) (65 * c .args .k) (c .args .own .now))
 
 loop-again : tie.Need-loop-again Inv-loop μ-loop
 loop-again c =
     let s = c .before .before .before in
     let a = s .args in
     let l = c .before .before .loop in
-    (omega arith, rw (l .inv .1) (copy-turn (a .marks .now) (65 * a .k) (a .t1 .marks) (l .q) (omega (arith, s .pre .2)) (omega (arith, s .pre .1 .wide))))
+    (omega arith, rw (l .inv .1) (copy-turn (a .marks .now) (65 * a .k) (a .own .now) (l .q) (omega (arith, s .pre .2)) (omega (arith, s .pre .1))))
 
 returns : tie.Need-returns Inv-loop μ-loop
 returns c =
-    let a = c .before .before .args in
+    let s = c .before .before in
+    let a = s .args in
     let l = c .before .loop in
     let e : l .q ≡ 65 = omega arith in
-    l .inv .1 ∙ ap (paste (a .marks .now) (65 * a .k) (a .t1 .marks)) e
+    l .inv .1 ∙ ap (paste (a .marks .now) (65 * a .k) (a .own .now)) e
 
 pub copy-marks-spec : {M : Type 1} → statement M
 copy-marks-spec =

@@ -8,4 +8,7 @@ returns : tie.Need-returns
 returns c = none-lists
 
 pub none-spec : {M : Type 1} → statement M
-none-spec = tie.close (tie.spec returns)
+none-spec =
+    tie.close
+    (tie.spec
+    returns)

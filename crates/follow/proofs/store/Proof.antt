@@ -8,7 +8,9 @@ use Rattle.follow.proofs.store.Statement.{statement}
 use Rattle.follow.proofs.store.Tie as tie
 
 returns : tie.Need-returns
-returns c = let a = c .before .before .before .before .before .args in record { rows = search needs; lens = ap (λ (n : ℕ). set (a .lens .now) (a .k) n) (c .narrow .ensures); sets = search needs; ends = search needs }
+returns c =
+    let s = c .before .before .before in
+    λ own. record { rows = search needs; lens = ap (λ (n : ℕ). set (s .args .lens .now) (s .args .k) n) (c .narrow .ensures); sets = search needs; ends = search needs }
 
 pub store-spec : {M : Type 1} → statement M
 store-spec =
