@@ -1,5 +1,5 @@
 /* Times one engine on one pattern: matchers ENGINE PATTERN UNIT END LENGTH.., where ENGINE is `yindorka` (both spans), `fields` (the greedy span with its fields), `glibc` (regexec, the
- * POSIX span) or `pcre2` (the greedy span with captures; its library is looked for when it is asked for, and needs no header). A line of each length is
+ * POSIX span), `pcre2` or `re2` (the greedy span with captures; their libraries are looked for when they are asked for, and need no header). A line of each length is
  * UNIT over and over, with END at its end. Prints for each length nanoseconds a byte by processor time, the best of the rounds, and how much longer the line took than the
  * one before it in the list, the median of the rounds; or `limit`, where PCRE2 stopped at one of its own. Every round times each length in turn, so that a slow moment of the machine falls on neighbours alike. */
 #include <dlfcn.h>
@@ -88,6 +88,36 @@ static int open_pcre2(const char *pattern)
     return pcre2_data != NULL;
 }
 
+/* RE2's two calls, by the names that its compiler gave them: the object from a pattern, and the search, which has the span and its captures as pieces of the line. */
+struct piece {
+    const char *data;
+    size_t size;
+};
+static void (*re2_make)(void *, const char *);
+static char (*re2_match)(const void *, const struct piece *, size_t, size_t, int, struct piece *, int);
+static double re2_object[512]; /* larger than any RE2 */
+
+static void re2_captures(const uint8_t *line, size_t length)
+{
+    struct piece text = {(const char *)line, length}, found[9];
+    sink += (size_t)re2_match(re2_object, &text, 0, length, 0, found, 9) + found[1].size;
+}
+
+static int open_re2(const char *pattern)
+{
+    void *library = dlopen("libre2.so.9", RTLD_NOW);
+    if (!library) {
+        return 0;
+    }
+    *(void **)&re2_make = dlsym(library, "_ZN3re23RE2C1EPKc");
+    *(void **)&re2_match = dlsym(library, "_ZNK3re23RE25MatchERKNS_11StringPieceEmmNS0_6AnchorEPS1_i");
+    if (!re2_make || !re2_match) {
+        return 0;
+    }
+    re2_make(re2_object, pattern);
+    return 1;
+}
+
 /* The engine of a name, ready for the pattern; none where it is missing or takes no such pattern. */
 static void (*engine_of(const char *name, const char *pattern))(const uint8_t *, size_t)
 {
@@ -100,6 +130,9 @@ static void (*engine_of(const char *name, const char *pattern))(const uint8_t *,
     }
     if (strcmp(name, "pcre2") == 0) {
         return open_pcre2(pattern) ? captures : NULL;
+    }
+    if (strcmp(name, "re2") == 0) {
+        return open_re2(pattern) ? re2_captures : NULL;
     }
     return regcomp(&expression, pattern, REG_EXTENDED) == 0 ? posix_span : NULL;
 }
