@@ -77,7 +77,7 @@ typedef struct {
     size_t count;
 } yindorka_fields_refusal;
 
-/* found 1: the greedy span. Bit f - 1 of known: field f has a start; bit f + 7: it has an end. It has both or neither. found 0: no part of the line matches. */
+/* found 1: the greedy span. Bit f - 1 of known: field f has a start; bit f + 7: it has an end. Without either it is absent. found 0: no part of the line matches. */
 typedef struct {
     size_t found;
     size_t start;
