@@ -3,6 +3,7 @@
 Expected results are those of standings.py, which takes some minutes for the longest witnesses. Run from the repository:
 python3 tests/reference/program_cases.py"""
 import sys
+from groups import groups, readable
 from paper01 import read
 from standings import check, numbered, spans
 
@@ -67,7 +68,9 @@ EXPLAINED = REFERENCE + EMPTY_TURNS + encoded(
     # deep and heavy
     '(' * 16 + 'a|ab' + ')' * 16, '(' * 16 + '|a' + ')?' * 16, deep(16), '(' + nest(15, '){0,63}' + nest(16)), '(a|ab){20}(|a)(|b)',
     # both verdicts, any bytes, refusals 10 and 1
-    '', 'b(|a)', 'x?(|y)', '(|a|ab)(c|bcd)?', 'a|ab|abc', '[ab](|[bc]+)', 'a{0,2}ab?', b'\xff(|\x00)', '(.|a.{10})*', 'a' * 256, '(a|ab)(bc|c)?')
+    '', 'b(|a)', 'x?(|y)', '(|a|ab)(c|bcd)?', 'a|ab|abc', '[ab](|[bc]+)', 'a{0,2}ab?', b'\xff(|\x00)', '(.|a.{10})*', 'a' * 256,
+    # readable bytes: a digit, a letter, a byte below the digits, the space, and none
+    '.(|.)', '[^0-9](|[^a])', '[^0-~](|x)', '[^!-~](|x)', b'[\x00-\x1f](|\x7f)', '(a|ab)(bc|c)?')
 
 # Every refusal, both verdicts, with every kind of buffer.
 LENGTHS = [(t, w) for t in (0, 1, 63, 64, 65, 127, 128, 255, 256, 257) for w in (0, 1, 2, 3)]
@@ -85,8 +88,9 @@ def explained(pattern):
     line = shown(pattern)
     if not line.startswith('unlike'):
         return line
-    start, short, long = spans(numbered(read(pattern)[1])[0], bytes.fromhex(line.split()[2]))
-    return '%s greedy %d %d posix %d %d' % (line, start, short, start, long)
+    witness = bytes.fromhex(line.split()[2])
+    start, short, long = spans(numbered(read(pattern)[1])[0], witness)
+    return '%s greedy %d %d posix %d %d readable %s' % (line, start, short, start, long, readable(groups(pattern), witness).hex())
 
 
 def called(pattern, t, w):

@@ -23,9 +23,10 @@ use Rattle.readings.specs.declared.Reply.{Reply}
 use Rattle.readings.specs.Replies.{Beside, Replied}
 use Rattle.readings.proofs.Laws.{spans-of}
 use Rattle.readings.proofs.Demand.{cut-refused}
+use Rattle.screen.proofs.Laws.{rewrites-accepted}
 use Rattle.printing.specs.Text.{ExplainedLine}
 use Rattle.answers.specs.Line.{CutLine}
-use Rattle.answers.specs.Cutting.{Shown}
+use Rattle.answers.specs.Cutting.{MadeReadable, Shown}
 use Rattle.answers.specs.Cutting as Shows
 
 -- Spans that are there are an accepted pattern's: a refused one has none.
@@ -42,8 +43,8 @@ module _ {p w : List ℕ} {r : Reply} (h : Replied p w r) where
   no-spans e a i = let c = spans-of h a i in sym (c .greedily) ∙ ap greedyOf e ∙ sym (ap posixOf e) ∙ c .longest
 
   -- or both, from one start.
-  pub both-spans : {i j k n : ℕ} {text : List ℕ} → r .spans ≡ Located i j k → ExplainedLine n w i j k text → CutLine p n w text
-  both-spans {i} {j} {k} e l =
+  pub both-spans : {i j k n : ℕ} {v text : List ℕ} → r .spans ≡ Located i j k → MadeReadable p w v → ExplainedLine n w i j k v text → CutLine p n w text
+  both-spans {i} {j} {k} {n} {v} {text} e f l =
       let (a, reads) = reads-of h e in
       let c = spans-of h a reads in
       record {
@@ -54,7 +55,7 @@ module _ {p w : List ℕ} {r : Reply} (h : Replied p w r) where
         long = k;
         greedily = sym (c .greedily) ∙ ap greedyOf e;
         longest = sym (c .longest) ∙ ap posixOf e;
-        line = l;
+        line = subst (λ u. ExplainedLine n w i j k u text) (rewrites-accepted (f .1) a reads) l;
       }
 
 -- A witness is cut differently, so it is shown with its spans.

@@ -10,6 +10,8 @@ use native.Mathlib.Decide.{decLt}
 use lib.ListN.{length, take, length-take}
 use lib.Seq.{take-all}
 use Rattle.grammar.specs.Refusals.{Fault, tooLong}
+use Rattle.grammar.specs.Refusals as Due
+use Rattle.grammar.proofs.Unique.{right-unique}
 use Rattle.verdict.specs.Checked.{Result, refused, Whole, whole, Checked, by-reader}
 use Rattle.verdict.proofs.Checked.{checked-one}
 use Rattle.checker.specs.declared.Verdict.{Verdict}
@@ -17,25 +19,38 @@ use Rattle.checker.specs.declared.Verdict.the-variants.{Alike, Unlike, Refused}
 use Rattle.checker.specs.Verdicts.{resultOf, Checks}
 use Rattle.lines.specs.Lines.{kept}
 use Rattle.answers.specs.Line.{AnswerLine}
-use Rattle.answers.specs.Answer.{Answer}
+use Rattle.answers.specs.declared.Asked.{Asked}
+use Rattle.answers.specs.declared.Asked.the-variants.{Spans, Groups}
+use Rattle.answers.specs.declared.Asked.the-variants as Asked
+use Rattle.answers.specs.Answer.{Judged, GroupsText, Listed, Answer}
 
 too-long : (p : List ℕ) → 255 < length p → Fault p 1 255
 too-long p h = tooLong h refl refl
 
 -- Of a pattern above 255 bytes nothing else is looked at.
-long-answer : {spans : Bool} {x y : List ℕ × List ℕ} {p q w : List ℕ} → 255 < length p → 255 < length q → Answer spans x p w y → Answer spans x q w y
-long-answer {spans} {x} {y} {p} {q} {w} h k a = go spans (a .verdict) (a .line) (checked-one (a .checks) (by-reader (too-long p h)))
+long-judged : {spans : Bool} {x y : List ℕ × List ℕ} {p q w : List ℕ} → 255 < length p → 255 < length q → Judged spans x p w y → Judged spans x q w y
+long-judged {spans} {x} {y} {p} {q} {w} h k a = go spans (a .verdict) (a .line) (checked-one (a .checks) (by-reader (too-long p h)))
   where
-    go : (s : Bool) (v : Verdict) → AnswerLine s p v (y .1) w → whole (resultOf v) (y .0) (y .1) ≡ whole (refused 1 255) (x .0) (x .1) → Answer s x q w y
+    go : (s : Bool) (v : Verdict) → AnswerLine s p v (y .1) w → whole (resultOf v) (y .0) (y .1) ≡ whole (refused 1 255) (x .0) (x .1) → Judged s x q w y
     go s (Alike n) l e = absurd (let z : _≡_ {A = ℕ} 0 1 = cc in omega arith)
     go s (Unlike n m) l e = absurd (let z : _≡_ {A = ℕ} 0 1 = cc in omega arith)
     go true (Refused n m) l e = record { verdict = Refused n m; checks = subst (Checked q (x .0) (x .1)) (sym e) (by-reader (too-long q k)); line = l }
     go false (Refused n m) l e = record { verdict = Refused n m; checks = subst (Checked q (x .0) (x .1)) (sym e) (by-reader (too-long q k)); line = l }
 
+long-listed : {p q w : List ℕ} → 255 < length p → 255 < length q → Listed p w → Listed q w
+long-listed {p} {q} {w} h k a =
+    let one : a .answer ≡ Due.refused 1 255 = sym (right-unique p (a .answer) (a .right)) ∙ right-unique p (Due.refused 1 255) (too-long p h) in
+    record { answer = Due.refused 1 255; right = too-long q k; line = subst (λ z. GroupsText z w) one (a .line) }
+
+long-answer : (asked : Asked) (x y : List ℕ × List ℕ) (p q w : List ℕ) → 255 < length p → 255 < length q → Answer asked x p w y → Answer asked x q w y
+long-answer Asked.Verdict x y p q w h k a = long-judged h k a
+long-answer Spans x y p q w h k a = long-judged h k a
+long-answer Groups x y p q w h k a = (long-listed h k (a .0), a .1)
+
 -- WHAT IS KEPT IS ENOUGH: a pattern and its first 1,025 bytes have the same answer.
-pub answer-kept : {spans : Bool} {x y : List ℕ × List ℕ} (p w : List ℕ) → Answer spans x (kept p) w y ↔ Answer spans x p w y
-answer-kept {spans} {x} {y} p w =
+pub answer-kept : (asked : Asked) (x y : List ℕ × List ℕ) (p w : List ℕ) → Answer asked x (kept p) w y ↔ Answer asked x p w y
+answer-kept asked x y p w =
     elim (decLt 1025 (length p)) [
-      | yes h ↦ (let n : length (kept p) ≡ min 1025 (length p) = length-take 1025 p in (λ a. long-answer (omega arith) (omega arith) a, λ a. long-answer (omega arith) (omega arith) a))
-      | no h ↦ (let e = take-all 1025 p (omega arith) in (λ a. subst (λ q. Answer spans x q w y) e a, λ a. subst (λ q. Answer spans x q w y) (sym e) a))
+      | yes h ↦ (let n : length (kept p) ≡ min 1025 (length p) = length-take 1025 p in (long-answer asked x y (kept p) p w (omega arith) (omega arith), long-answer asked x y p (kept p) w (omega arith) (omega arith)))
+      | no h ↦ (let e = take-all 1025 p (omega arith) in (λ a. subst (λ q. Answer asked x q w y) e a, λ a. subst (λ q. Answer asked x q w y) (sym e) a))
     ]

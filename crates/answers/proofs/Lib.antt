@@ -1,3 +1,4 @@
 -- Laws of the lines that answer a pattern.
 mod Cutting
+mod Listing
 pub mod Kept

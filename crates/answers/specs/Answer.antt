@@ -1,20 +1,44 @@
 -- What is printed for a pattern.
 -- Assumes nothing.
-use mathlib.Core.Bool.{Bool}
+use mathlib.Core.Path.{_≡_}
+use mathlib.Core.Bool.{Bool, true, false}
 use Prim.Native.Nat.{ℕ}
 use mathlib.Core.List.{List}
-use Rattle.printing.specs.Text.{Printed}
+use Rattle.grammar.specs.WriteOut.{writeOut}
+use Rattle.grammar.specs.Refusals.{Right}
+use Rattle.grammar.specs.Refusals as Due
+use Rattle.groups.specs.Numbers.{groupsOf}
+use Rattle.printing.specs.Text.{Printed, RefusedLine, GroupsLine}
 use Rattle.checker.specs.declared.Verdict.{Verdict}
 use Rattle.checker.specs.Verdicts.{Checks}
+use Rattle.answers.specs.declared.Asked.{Asked}
+use Rattle.answers.specs.declared.Asked.the-variants.{Spans, Groups}
+use Rattle.answers.specs.declared.Asked.the-variants as Asked
 use Rattle.answers.specs.Line.{AnswerLine}
 
--- The text w answers the pattern p: it is the line of the verdict that paper 01 gives for it, with the spans of the witness if they are asked for. Table and
+-- The text w is the line of the verdict that paper 01 gives for the pattern p, with the spans of the witness and its readable form if they are asked for. Table and
 -- witness buffer, which held x, hold y then.
-pub record Answer (spans : Bool) (x : List ℕ × List ℕ) (p w : List ℕ) (y : List ℕ × List ℕ) : Type 0 where
+pub record Judged (spans : Bool) (x : List ℕ × List ℕ) (p w : List ℕ) (y : List ℕ × List ℕ) : Type 0 where
   pub verdict : Verdict
   pub checks : Checks p (x .0) (x .1) verdict (y .0) (y .1)
   pub line : AnswerLine spans p verdict (y .1) w
 
--- The answer, of at most 2,174 bytes, is added to the n bytes that the buffer `old` held.
-abbrev pub Answered : Bool → List ℕ × List ℕ → List ℕ → List ℕ × List ℕ → List ℕ → ℕ → List ℕ → ℕ → Type 0
-Answered spans x p y old n new m = Printed 2174 (λ w. Answer spans x p w y) old n new m
+-- The text w has the number of each byte's group (request 3), by the grammar's answer, or the refusal.
+abbrev pub GroupsText : Due.Answer → List ℕ → Type 0
+GroupsText (Due.accepted t) w = GroupsLine (groupsOf (writeOut t) .group) w
+GroupsText (Due.refused n q) w = RefusedLine n q w
+
+pub record Listed (p w : List ℕ) : Type 0 where
+  pub answer : Due.Answer
+  pub right : Right p answer
+  pub line : GroupsText answer w
+
+-- The text w answers the pattern p. Groups leave table and witness buffer as they are.
+abbrev pub Answer : Asked → List ℕ × List ℕ → List ℕ → List ℕ → List ℕ × List ℕ → Type 0
+Answer Asked.Verdict x p w y = Judged false x p w y
+Answer Spans x p w y = Judged true x p w y
+Answer Groups x p w y = Listed p w × (y ≡ x)
+
+-- The answer, of at most 5,383 bytes, is added to the n bytes that the buffer `old` held.
+abbrev pub Answered : Asked → List ℕ × List ℕ → List ℕ → List ℕ × List ℕ → List ℕ → ℕ → List ℕ → ℕ → Type 0
+Answered asked x p y old n new m = Printed 5383 (λ w. Answer asked x p w y) old n new m

@@ -8,9 +8,15 @@ use Rattle.grammar.specs.Grammar.{Alternation}
 use Rattle.grammar.specs.Limits.{Reads}
 use Rattle.grammar.specs.WriteOut.{writeOut}
 use Rattle.printing.specs.Text.{room, Printed, UnlikeLine}
+use Rattle.reader.specs.declared.Answer.{Answer}
+use Rattle.screen.specs.Shows.{Rewrites}
 use Rattle.checker.specs.declared.Verdict.{Verdict}
 use Rattle.checker.specs.Verdicts.{Checks}
 use Rattle.answers.specs.Line.{CutLine, SpansLineOf}
+
+-- The line w becomes w′ in readable bytes, if the pattern is one.
+abbrev pub MadeReadable : List ℕ → List ℕ → List ℕ → Type 0
+MadeReadable p w w′ = (x : Answer) × Rewrites p w x w′
 
 -- The line w with both spans; or without, and then the pattern, if it is one, does not cut w differently.
 pub data Shown (p : List ℕ) (n : ℕ) (w text : List ℕ) : Type 0 where
@@ -19,4 +25,4 @@ pub data Shown (p : List ℕ) (n : ℕ) (w text : List ℕ) : Type 0 where
 
 -- For the verdict on the pattern.
 abbrev pub Explained : List ℕ → Verdict → List ℕ → List ℕ → ℕ → List ℕ → ℕ → Type 0
-Explained p x v old n new m = (t u t′ : List ℕ) → Checks p t u x t′ v → Printed (room 126 v) (SpansLineOf p x v) old n new m
+Explained p x v old n new m = (t u t′ : List ℕ) → Checks p t u x t′ v → Printed (room (room 136 v) v) (SpansLineOf p x v) old n new m

@@ -1,5 +1,5 @@
 -- The line of a verdict: "fields: verdict, record count, witness in lower-case hex; or number, place" (paper 01, "The programs"). And the same with the spans of
--- the witness.
+-- the witness and its readable form (request 3).
 -- Assumes nothing.
 use mathlib.Core.Path.{_≡_}
 use mathlib.Core.Bool.{Bool, true, false}
@@ -10,6 +10,7 @@ use Rattle.theory.specs.Spans.{span, greedy, posix}
 use Rattle.grammar.specs.Grammar.{Alternation}
 use Rattle.grammar.specs.Limits.{Reads}
 use Rattle.grammar.specs.WriteOut.{writeOut}
+use Rattle.groups.specs.Readable.{readable}
 use Rattle.printing.specs.Text.{AlikeLine, UnlikeLine, RefusedLine, ExplainedLine}
 use Rattle.checker.specs.declared.Verdict.{Verdict}
 use Rattle.checker.specs.declared.Verdict.the-variants.{Alike, Unlike, Refused}
@@ -20,7 +21,7 @@ LineOf (Alike n) v text = AlikeLine n text
 LineOf (Unlike n k) v text = UnlikeLine n (take k v) text
 LineOf (Refused n q) v text = RefusedLine n q text
 
--- The verdict unlike on the pattern p, with both spans of the witness w.
+-- The verdict unlike on the pattern p, with both spans of the witness w, and w in readable bytes.
 pub record CutLine (p : List ℕ) (n : ℕ) (w text : List ℕ) : Type 0 where
   pub tree : Alternation
   pub reads : Reads p tree
@@ -29,7 +30,7 @@ pub record CutLine (p : List ℕ) (n : ℕ) (w text : List ℕ) : Type 0 where
   pub long : ℕ
   pub greedily : greedy (writeOut tree) w ≡ span start short
   pub longest : posix (writeOut tree) w ≡ span start long
-  pub line : ExplainedLine n w start short long text
+  pub line : ExplainedLine n w start short long (readable (writeOut tree) w) text
 
 -- The verdict's line on the pattern p, with the spans of the witness.
 abbrev pub SpansLineOf : List ℕ → Verdict → List ℕ → List ℕ → Type 0

@@ -1,10 +1,13 @@
-// What the programs print for a pattern: the checker's verdict on it, also with both spans of the witness, and the answers to the patterns of a chunk of the input.
-ghost use lib.ListN.{take};
+// What the programs print for a pattern: the checker's verdict on it, also with both spans of the witness and its readable form, or its byte groups; and the answers
+// to the patterns of the input.
+ghost use Prim.Native.Nat.{_≤_};
+ghost use lib.ListN.{length, take};
 ghost use Rattle.lines.specs.Answers.{Served};
+ghost use Rattle.lines.specs.Exchange.{Finished};
 ghost use Rattle.printing.specs.Text.{room, Printed};
 ghost use Rattle.answers.specs.Line.{LineOf};
-ghost use Rattle.answers.specs.Answer.{Answer, Answered};
-ghost use Rattle.answers.specs.Cutting.{Shown, Explained};
+ghost use Rattle.answers.specs.Answer.{Judged, Listed, Answer, Answered};
+ghost use Rattle.answers.specs.Cutting.{MadeReadable, Shown, Explained};
 use checker::Verdict;
 use lines::KEPT;
 use lines::SIZE;
@@ -17,8 +20,18 @@ pub const TABLE: usize = 65536;
 
 pub const WITNESS: usize = 1024;
 
-// No printed line is longer: 'unlike', a number, 1,024 bytes in hex, 'greedy', two numbers, 'posix' and two numbers, each number of at most 20 digits.
-const LONGEST: usize = 2174;
+// No printed line is longer: 'groups' and 256 numbers, each of at most 20 digits.
+const LONGEST: usize = 5383;
+
+// What is asked for a pattern.
+pub enum Asked {
+    // the verdict
+    Verdict,
+    // the same with both spans of the witness and its readable form
+    Spans,
+    // its byte groups
+    Groups,
+}
 
 // Appends the verdict's line to the buffer, which held n bytes, and returns how many it holds now. The witness stands at the start of its buffer.
 pub fn verdict(out: &mut [u8; SIZE], n: usize, x: Verdict, witness: &[u8]) -> usize
@@ -31,16 +44,24 @@ pub fn verdict(out: &mut [u8; SIZE], n: usize, x: Verdict, witness: &[u8]) -> us
     }
 }
 
-// Appends the verdict unlike with both spans of the witness. A line that is not cut differently may have none.
+// Makes the first n bytes of a line readable.
+fn make_readable(pattern: &[u8], line: &mut [u8], n: usize)
+    requires { ⌜ n ≤ length (now line) ⌝ }
+    ensures { λ _. ⌜ MadeReadable (now (pattern .entry)) (take n (now (line .entry))) (take n (now (line .exit))) ⌝ }
+{
+    screen::readable(pattern, &mut line[..n]);
+}
+
+// Appends the verdict unlike with both spans of the witness and its readable form. A line that is not cut differently may have no span.
 fn cut_witness<'a>(
     out: &mut [u8; SIZE],
     n: usize,
     pattern: &'a [u8],
     count: usize,
     length: usize,
-    witness: &'a [u8],
+    witness: &'a [u8; WITNESS],
 ) -> usize
-    ensures { λ r. ⌜ Printed (room 126 (now (witness .entry))) (Shown (now (pattern .entry)) count (take length (now (witness .entry)))) (now (out .entry)) n (now (out .exit)) r ⌝ }
+    ensures { λ r. ⌜ Printed (room (room 136 (now (witness .entry))) (now (witness .entry))) (Shown (now (pattern .entry)) count (take length (now (witness .entry)))) (now (out .entry)) n (now (out .exit)) r ⌝ }
 {
     let reply = readings::cut_line(pattern, lines::first_of(witness, length));
     let spans = reply.spans;
@@ -52,16 +73,19 @@ fn cut_witness<'a>(
     else {
         return printing::unlike(out, n, count, length, witness);
     };
-    printing::explained(out, n, count, length, witness, start, greedy, posix)
+    let mut readable = *witness;
+    let end = words::least(length, words::length_of(witness));
+    make_readable(pattern, &mut readable, end);
+    printing::explained(out, n, count, end, witness, start, greedy, posix, &readable)
 }
 
-// Appends the verdict's line, with both spans of the witness where there is one.
+// Appends the verdict's line, with both spans of the witness and its readable form where there is one.
 fn explained<'a>(
     out: &mut [u8; SIZE],
     n: usize,
     pattern: &'a [u8],
     x: Verdict,
-    witness: &'a [u8],
+    witness: &'a [u8; WITNESS],
 ) -> usize
     ensures { λ r. ⌜ Explained (now (pattern .entry)) x (now (witness .entry)) (now (out .entry)) n (now (out .exit)) r ⌝ }
 {
@@ -72,8 +96,8 @@ fn explained<'a>(
     }
 }
 
-// Appends the line of the checker's verdict on a pattern; `spans` asks for the spans of the witness. Table and witness buffer are the checker's.
-pub fn answer(
+// Appends the checker's verdict on a pattern; `spans` asks for the spans of the witness and its readable form. Table and witness buffer are the checker's.
+fn judge(
     out: &mut [u8; SIZE],
     n: usize,
     pattern: &[u8],
@@ -81,7 +105,7 @@ pub fn answer(
     witness: &mut [u8; WITNESS],
     spans: bool,
 ) -> usize
-    ensures answered { λ r. ⌜ Answered spans (now (table .entry), now (witness .entry)) (now (pattern .entry)) (now (table .exit), now (witness .exit))
+    ensures { λ r. ⌜ Printed 4232 (λ w. Judged spans (now (table .entry), now (witness .entry)) (now (pattern .entry)) w (now (table .exit), now (witness .exit)))
         (now (out .entry)) n (now (out .exit)) r ⌝ }
 {
     let x = checker::check(pattern, table, witness);
@@ -91,6 +115,39 @@ pub fn answer(
     verdict(out, n, x, witness)
 }
 
+// Appends the number of each byte's group, or the pattern's refusal.
+fn list_groups(out: &mut [u8; SIZE], n: usize, pattern: &[u8]) -> usize
+    ensures { λ r. ⌜ Printed 5383 (Listed (now (pattern .entry))) (now (out .entry)) n (now (out .exit)) r ⌝ }
+{
+    let mut group = [0u8; 256];
+    let mut lowest = [0u8; 256];
+    let own = screen::groups(pattern, &mut group, &mut lowest);
+    let answer = own.answer;
+    let reader::Answer::Refused { number, place } = answer else {
+        return printing::groups(out, n, &group);
+    };
+    printing::refused(out, n, number, place)
+}
+
+// Appends what is asked for a pattern. Groups need neither table nor witness buffer.
+pub fn answer(
+    out: &mut [u8; SIZE],
+    n: usize,
+    pattern: &[u8],
+    table: &mut [u8; TABLE],
+    witness: &mut [u8; WITNESS],
+    asked: Asked,
+) -> usize
+    ensures answered { λ r. ⌜ Answered asked (now (table .entry), now (witness .entry)) (now (pattern .entry)) (now (table .exit), now (witness .exit))
+        (now (out .entry)) n (now (out .exit)) r ⌝ }
+{
+    match asked {
+        Asked::Verdict => judge(out, n, pattern, table, witness, false),
+        Asked::Spans => judge(out, n, pattern, table, witness, true),
+        Asked::Groups => list_groups(out, n, pattern),
+    }
+}
+
 // Answers the patterns whose lines end in the chunk, in their order, while there is room for a further answer.
 pub fn answer_lines(
     chunk: &[u8; SIZE],
@@ -98,10 +155,10 @@ pub fn answer_lines(
     out: &mut [u8; SIZE],
     table: &mut [u8; TABLE],
     witness: &mut [u8; WITNESS],
-    spans: bool,
+    asked: Asked,
     state: State,
 ) -> State
-    ensures served { λ r. ⌜ Served (Answer spans) 2174 (now (chunk .entry)) (now (line .entry)) (now (out .entry)) (now (table .entry), now (witness .entry)) state
+    ensures served { λ r. ⌜ Served (Answer asked) 5383 (now (chunk .entry)) (now (line .entry)) (now (out .entry)) (now (table .entry), now (witness .entry)) state
         (now (line .exit)) (now (out .exit)) (now (table .exit), now (witness .exit)) r ⌝ }
 {
     let mut s = state;
@@ -109,8 +166,31 @@ pub fn answer_lines(
         s = lines::next_line(chunk, line, s);
         if s.whole {
             let pattern = lines::first_of(line, s.n);
-            s.used = answer(out, s.used, pattern, table, witness, spans);
+            s.used = answer(out, s.used, pattern, table, witness, asked);
         }
     }
     s
+}
+
+// Answers the patterns of the input, until it is over or a read or a write fails.
+pub fn run(
+    chunk: &mut [u8; SIZE],
+    line: &mut [u8; KEPT],
+    out: &mut [u8; SIZE],
+    table: &mut [u8; TABLE],
+    witness: &mut [u8; WITNESS],
+    asked: Asked,
+    first: State,
+) -> State
+    ensures finished { λ r. ⌜ Finished r ⌝ }
+{
+    let mut s = first;
+    s.used = 0;
+    let mut turns = u64::MAX;
+    while turns > 0 && lines::goes_on(s) {
+        s = answer_lines(chunk, line, out, table, witness, asked, s);
+        s = lines::exchange(chunk, out, s);
+        turns -= 1;
+    }
+    lines::finish(s)
 }

@@ -1,8 +1,11 @@
-// Answers what the front end asks. The first word of the input says what; after it and a space come a pattern line and order lines, as for `match_lines`.
-// 'fields': for each order line the greedy span with its fields, 'none' or a refusal (request 2). A refused pattern prints its refusal only, another word 'unknown'.
-// Lines may have any length; input and output go by chunks, so memory stays the same. What is known is printed before more is read. A failed read or write ends the
+// Answers what the front end asks. The first word of the input says what.
+// 'fields ': after it come a pattern line and order lines, as for `match_lines`; for each order line the greedy span with its fields, 'none' or a refusal (request 2). A
+// refused pattern prints its refusal only.
+// 'groups' on a line of its own: each further line is a pattern; for each the number of each byte's group (request 3), or its refusal.
+// Another word prints 'unknown'. Lines may have any length; input and output go by chunks, so memory stays the same. What is known is printed before more is read. A failed read or write ends the
 // program with a line on standard error.
 ghost use mathlib.Core.Path.{_≡_};
+use answers::Asked;
 use lines::KEPT;
 use lines::SIZE;
 use lines::State;
@@ -63,12 +66,37 @@ fn serve_fields(
     lines::write_out(out, s)
 }
 
+// Lists the groups of the patterns on the lines after the first. Nothing waits then.
+fn serve_groups(
+    chunk: &mut [u8; SIZE],
+    line: &mut [u8; KEPT],
+    out: &mut [u8; SIZE],
+    first: State,
+) -> State
+    ensures { λ r. ⌜ r .used ≡ 0 ⌝ }
+{
+    let mut table = [0u8; answers::TABLE];
+    let mut witness = [0u8; answers::WITNESS];
+    answers::run(
+        chunk,
+        line,
+        out,
+        &mut table,
+        &mut witness,
+        Asked::Groups,
+        first,
+    )
+}
+
 // The first line's word decides.
 fn serve(chunk: &mut [u8; SIZE], line: &mut [u8; KEPT], out: &mut [u8; SIZE], first: State) -> State
     ensures { λ r. ⌜ r .used ≡ 0 ⌝ }
 {
     if lines::begins_with(lines::first_of(line, first.n), b"fields ") {
         return serve_fields(chunk, line, out, first);
+    }
+    if first.n == 6 && lines::begins_with(lines::first_of(line, first.n), b"groups") {
+        return serve_groups(chunk, line, out, first);
     }
     let mut s = first;
     s.used = printing::text(out, 0, b"unknown");

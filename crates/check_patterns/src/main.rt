@@ -1,30 +1,9 @@
 // Reads patterns from standard input, one a line, and prints the checker's verdict on each: paper 01, "The programs". A blank line is the empty pattern.
 // Lines may have any length; input and output go by chunks, so memory stays the same. What is known is printed before more is read. A failed read or write ends
 // the program with a line on standard error.
-ghost use Rattle.lines.specs.Exchange.{Finished};
+use answers::Asked;
 use lines::KEPT;
 use lines::SIZE;
-use lines::State;
-
-// Answers the patterns of the input, until it is over or a read or a write fails.
-fn run(
-    chunk: &mut [u8; SIZE],
-    line: &mut [u8; KEPT],
-    out: &mut [u8; SIZE],
-    table: &mut [u8; answers::TABLE],
-    witness: &mut [u8; answers::WITNESS],
-) -> State
-    ensures { λ r. ⌜ Finished r ⌝ }
-{
-    let mut s = lines::start();
-    let mut turns = u64::MAX;
-    while turns > 0 && lines::goes_on(s) {
-        s = answers::answer_lines(chunk, line, out, table, witness, false, s);
-        s = lines::exchange(chunk, out, s);
-        turns -= 1;
-    }
-    lines::finish(s)
-}
 
 fn main() {
     let mut chunk = [0u8; SIZE];
@@ -32,7 +11,15 @@ fn main() {
     let mut out = [0u8; SIZE];
     let mut table = [0u8; answers::TABLE];
     let mut witness = [0u8; answers::WITNESS];
-    let s = run(&mut chunk, &mut line, &mut out, &mut table, &mut witness);
+    let s = answers::run(
+        &mut chunk,
+        &mut line,
+        &mut out,
+        &mut table,
+        &mut witness,
+        Asked::Verdict,
+        lines::start(),
+    );
     let source = s.source;
     lines::tell(&mut out, source);
 }

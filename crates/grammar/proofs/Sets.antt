@@ -9,14 +9,9 @@ use native.Mathlib.Decide.{ℕ-discrete}
 use lib.ListN.{getD}
 use lib.Dec.{T, eqb}
 use Rattle.theory.specs.Standing.{from}
+use Rattle.theory.proofs.Members.{map-from}
 use Rattle.grammar.specs.Grammar.{Name, alpha, digit, alnum, upper, lower, xdigit, space, punct}
 use Rattle.grammar.specs.Sets.{inPosix, bitOf, names, entry, setTable, inNamed}
-
--- Entry b of a table of the numbers from n on.
-pub map-from : (f : ℕ → ℕ) (n d b : ℕ) → b < d → getD (map f (from n d)) b 0 ≡ f (n + b)
-map-from f n zero b h = absurd (omega arith)
-map-from f n (suc d) zero h = let e : n ≡ n + 0 = omega arith in ap f e
-map-from f n (suc d) (suc b) h = let e : suc n + b ≡ n + suc b = omega arith in map-from f (suc n) d b (omega arith) ∙ ap f e
 
 pub table-entry : (b : ℕ) → b < 256 → getD setTable b 0 ≡ entry names b
 unfolding setTable

@@ -9,12 +9,15 @@ use native.Mathlib.Nat.{mod-lt, two-pow-succ}
 use native.Mathlib.Omega.{arith}
 use native.Mathlib.Decide.{decLt}
 use lib.ListN.{getD}
-use lib.Dec.{eqb}
+use lib.Dec.{eqb, eqb→eq}
 use lib.Pow.{pow-mono, shr-shr}
 use Rattle.theory.specs.Pattern.{Re, count, has, SameGroup}
 use Rattle.words.specs.Sets.{hasBit}
-use Rattle.groups.specs.declared.Groups.{Groups}
-use Rattle.groups.specs.Grouped.{Grouped, groupOf}
+use Rattle.theory.proofs.Tests.{same-test}
+use Rattle.groups.specs.Numbers.{shares, groupsBy, groupsOf}
+use Rattle.groups.specs.Turns.{same}
+use Rattle.groups.proofs.Numbers.{same-groups, shares-is}
+use Rattle.groups.proofs.Turns.{alike-same}
 
 digit : (a b : ℕ) → a < 2 → b < 2 → eqb a 1 ≡ eqb b 1 → a ≡ b
 digit zero zero h k e = refl
@@ -61,9 +64,11 @@ module _ (r : Re) (masks : List ℕ) (are : (b p : ℕ) → b < 256 → p < coun
       bit s p (yes l) = sym (are b p hb l) ∙ s p l ∙ are c p hc l
       bit s p (no l) = no-more b p hb (omega arith) ∙ sym (no-more c p hc (omega arith))
 
-  -- and so exactly if they share a group.
-  pub same-group : (g : Groups) → Grouped masks g → (b c : ℕ) → b < 256 → c < 256 → SameGroup r b c ↔ (groupOf g b ≡ groupOf g c)
-  same-group g t b c hb hc =
-      let s = same-masks b c hb hc in
-      let m = t .share b c hb hc in
-      (λ e. m .1 (s .0 e), λ e. s .1 (m .0 e))
+  -- so the groups of bytes with equal masks are the pattern's.
+  pub mask-groups : groupsBy (same masks) ≡ groupsOf r
+  mask-groups =
+      same-groups (same masks) (shares r)
+      (λ b c hb hc. let s = same-masks b c hb hc in
+      same-test (same masks b c) (shares r b c)
+      (λ t. shares-is r b c .1 (s .1 (eqb→eq (getD masks b 0) (getD masks c 0) t)))
+      (λ t. alike-same masks b c (s .0 (shares-is r b c .0 t))))

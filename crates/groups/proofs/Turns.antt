@@ -1,131 +1,143 @@
 -- One turn of the code: the groups of the bytes below n become those of the bytes below n + 1.
 -- Assumes nothing.
-use mathlib.Core.Path.{_≡_, refl, sym, _∙_}
-use mathlib.Core.List.{List}
-use mathlib.Core.Logic.{_↔_}
-use Prim.Native.Nat.{ℕ, _+_, _≤_, _<_}
+use mathlib.Core.Path.{_≡_, refl, sym, ap, ap₂, _∙_}
+use mathlib.Core.List.{List, [], _∷_, _++_, map, append-nil, map-append}
+use mathlib.Core.Bool.{Bool, true, false, not, cond, true≢false}
+use Prim.Native.Nat.{ℕ, suc, _+_, _-_, _≤_, _<_}
 use native.Mathlib.Omega.{arith}
-use lib.ListN.{getD, set, replicate, length-set, length-replicate}
-use lib.Seq.{getD-set-same, getD-set-other}
-use borrow.Author.Count.{below-more}
-use Rattle.groups.specs.Grouped.{Grouped}
-use Rattle.groups.specs.Turns.{GroupedTo}
+use lib.ListN.{length, getD, set, replicate, List·getD-append, length-map, length-append}
+use lib.Seq.{set-at, append-snoc}
+use lib.Dec.{T, eqb, eqb→eq, eqb-refl}
+use Rattle.theory.specs.Standing.{from, filter}
+use Rattle.theory.specs.Code.Members.{any}
+use Rattle.theory.proofs.Tests.{T-true, true-T, not-true}
+use Rattle.theory.proofs.Members.{any-found, any-of, member-from, length-from, map-from, from-append, from-snoc, filter-append}
+use Rattle.groups.specs.declared.Groups.{Groups}
+use Rattle.groups.specs.Numbers.{placeOf, isLowest, lowestBelow, lowestBytes, numberOf, numbers, groupsBy}
+use Rattle.groups.specs.Turns.{same, GroupedTo}
+use Rattle.groups.proofs.Lists.{from-range, filter-in, place-here, place-agree}
+use Rattle.groups.proofs.Numbers.{Equivalence, shared-alike}
 
-pub turn-begin : (masks : List ℕ) → GroupedTo masks 0 (replicate 256 0) (replicate 256 0) 0
-turn-begin masks =
+pub same-equivalence : (a : List ℕ) → Equivalence (same a)
+same-equivalence a =
     record {
-      long = length-replicate {A = ℕ} 256 0;
-      room = length-replicate {A = ℕ} 256 0;
-      share = λ b c h k. absurd (omega arith);
-      below = λ b h. absurd (omega arith);
-      most = omega arith;
-      used = λ k h. absurd (omega arith);
-      least = λ k b h l e. absurd (omega arith);
+      self = λ b. eqb-refl (getD a b 0);
+      turned = λ b c t. rw (eqb→eq (getD a b 0) (getD a c 0) t) (eqb-refl (getD a c 0));
+      chained = λ b c d s t. rw (eqb→eq (getD a b 0) (getD a c 0) s) t;
     }
 
-pub turn-end : (masks group lowest : List ℕ) (count : ℕ) → GroupedTo masks 256 group lowest count → Grouped masks (record { group = group; lowest = lowest; count = count })
+pub alike-same : (a : List ℕ) (b c : ℕ) → getD a b 0 ≡ getD a c 0 → T (same a b c)
+alike-same a b c e = rw e (eqb-refl (getD a c 0))
+
+-- A list in an array of 256 places, with zeros after it, becomes longer by a number.
+fill : (p : List ℕ) (n v : ℕ) → length p ≡ n → n < 256 → set (p ++ replicate (256 - n) 0) n v ≡ (p ++ (v ∷ [])) ++ replicate (256 - (n + 1)) 0
+fill p n v e h =
+    let more : 256 - n ≡ suc (256 - (n + 1)) = omega arith in
+    ap (λ k. set (p ++ replicate k 0) n v) more ∙ set-at p 0 (replicate (256 - (n + 1)) 0) v n e ∙ sym (append-snoc p v (replicate (256 - (n + 1)) 0))
+
+-- One byte more.
+next-byte : (n : ℕ) → from 0 (n + 1) ≡ from 0 n ++ (n ∷ [])
+next-byte n = let (h, i) : (n + 1 ≡ suc n) × (0 + n ≡ n) = omega arith in ap (from 0) h ∙ from-snoc 0 n ∙ ap (λ k. from 0 n ++ (k ∷ [])) i
+
+next-number : (f : ℕ → ℕ) (n : ℕ) → map f (from 0 (n + 1)) ≡ map f (from 0 n) ++ (f n ∷ [])
+next-number f n = ap (map f) (next-byte n) ∙ map-append f (from 0 n) (n ∷ [])
+
+next-lowest : (share : ℕ → ℕ → Bool) (n : ℕ) → lowestBelow share (n + 1) ≡ lowestBelow share n ++ cond (isLowest share n) (n ∷ []) []
+next-lowest share n = ap (filter (isLowest share)) (next-byte n) ∙ filter-append (isLowest share) (from 0 n) (n ∷ [])
+
+numbers-size : (f : ℕ → ℕ) (n : ℕ) → length (map f (from 0 n)) ≡ n
+numbers-size f n = length-map (from 0 n) f ∙ length-from 0 n
+
+-- A byte that is the lowest of its group has as its number how many lowest bytes there are below.
+module _ (share : ℕ → ℕ → Bool) (q : Equivalence share) (n : ℕ) (h : n < 256) (low : isLowest share n ≡ true) where
+  none-below : any (λ c. share c n) (lowestBelow share n) ≡ false
+  none-below =
+      not-true (any (λ c. share c n) (lowestBelow share n))
+      (λ t. let (c, m, s) = any-found (λ c. share c n) (lowestBelow share n) t in
+      apart (any (λ c. share c n) (from 0 n)) low (any-of (λ c. share c n) (from 0 n) c (filter-in (isLowest share) (from 0 n) c m) s))
+    where
+      apart : (a : Bool) → not a ≡ true → T a → ⊥
+      apart true e t = true≢false (sym e)
+      apart false e t = t
+
+  split : lowestBytes share ≡ lowestBelow share n ++ (n ∷ filter (isLowest share) (from (suc n) (255 - n)))
+  unfolding lowestBytes
+  split =
+      let (all, rest, on) : (256 ≡ n + (256 - n)) × (256 - n ≡ suc (255 - n)) × (0 + n ≡ n) = omega arith in
+      ap (lowestBelow share) all
+      ∙ ap (filter (isLowest share)) (from-append 0 n (256 - n))
+      ∙ filter-append (isLowest share) (from 0 n) (from (0 + n) (256 - n))
+      ∙ ap₂ (λ k d. lowestBelow share n ++ filter (isLowest share) (from k d)) on rest
+      ∙ ap (λ c. lowestBelow share n ++ cond c (n ∷ filter (isLowest share) (from (suc n) (255 - n))) (filter (isLowest share) (from (suc n) (255 - n)))) low
+
+  new-number : numberOf share n ≡ length (lowestBelow share n)
+  new-number = ap (λ l. placeOf (λ c. share c n) l) split ∙ place-here (λ c. share c n) (lowestBelow share n) n _ none-below (q .self n)
+
+pub turn-begin : (masks : List ℕ) → GroupedTo masks 0 (replicate 256 0) (replicate 256 0) 0
+turn-begin masks = let e : 256 ≡ 256 - 0 = omega arith in record { numbered = ap (λ k. replicate k 0) e; lowly = ap (λ k. replicate k 0) e; counted = refl; most = omega arith }
+
+pub turn-end : (masks group lowest : List ℕ) (count : ℕ) → GroupedTo masks 256 group lowest count → _≡_ {A = Groups} (record { group = group; lowest = lowest; count = count }) (groupsBy (same masks))
+unfolding lowestBytes numbers
 turn-end masks group lowest count t =
-    record { share = t .share; below = t .below; most = t .most; used = t .used; least = t .least }
-
--- The facts of a pair of bytes, of a group k, and of a byte b of it.
-abbrev Share : List ℕ → List ℕ → ℕ → ℕ → Type 0
-Share masks group b c = (getD group b 0 ≡ getD group c 0) ↔ (getD masks b 0 ≡ getD masks c 0)
-
-abbrev Used : List ℕ → List ℕ → ℕ → ℕ → Type 0
-Used group lowest n k = (getD lowest k 0 < n) × (getD group (getD lowest k 0) 0 ≡ k)
-
-abbrev Least : List ℕ → List ℕ → ℕ → ℕ → Type 0
-Least group lowest k b = getD group b 0 ≡ k → getD lowest k 0 ≤ b
-
--- A byte b below n + 1 has, in the groups `after` the turn, the group of a byte below n that is no higher and has its mask.
-record Like (masks group after : List ℕ) (n b : ℕ) : Type 0 where
-  like : ℕ
-  early : like < n
-  lower : like ≤ b
-  joins : getD after b 0 ≡ getD group like 0
-  mask : getD masks b 0 ≡ getD masks like 0
+    let none : 256 - 256 ≡ 0 = omega arith in
+    let all : group ≡ map (numberOf (same masks)) (from 0 256) = t .numbered ∙ ap (λ k. map (numberOf (same masks)) (from 0 256) ++ replicate k 0) none ∙ append-nil _ in
+    λ i. record { group = all i; lowest = (t .lowly ∙ ap (λ k. lowestBelow (same masks) 256 ++ replicate (256 - k) 0) (t .counted)) i; count = t .counted i }
 
 module _ (masks group lowest : List ℕ) (n count : ℕ) (h : n < 256) (t : GroupedTo masks n group lowest count) where
-  at-new : (v : ℕ) → getD (set group n v) n 0 ≡ v
-  at-new v = getD-set-same group n v 0 (omega (arith, t .long))
+  numbered : (v : ℕ) → v ≡ numberOf (same masks) n → set group n v ≡ map (numberOf (same masks)) (from 0 (n + 1)) ++ replicate (256 - (n + 1)) 0
+  numbered v e =
+      ap (λ l. set l n v) (t .numbered)
+      ∙ fill (map (numberOf (same masks)) (from 0 n)) n v (numbers-size (numberOf (same masks)) n) h
+      ∙ ap (λ l. l ++ replicate (256 - (n + 1)) 0) (ap (λ x. map (numberOf (same masks)) (from 0 n) ++ (x ∷ [])) e ∙ sym (next-number (numberOf (same masks)) n))
 
-  at-old : (v b : ℕ) → b < n → getD (set group n v) b 0 ≡ getD group b 0
-  at-old v b l = getD-set-other group n b v 0 (λ e. omega arith)
+  lowest-is : (a : Bool) → isLowest (same masks) n ≡ a → lowestBelow (same masks) (n + 1) ≡ lowestBelow (same masks) n ++ cond a (n ∷ []) []
+  lowest-is a e = next-lowest (same masks) n ∙ ap (λ c. lowestBelow (same masks) n ++ cond c (n ∷ []) []) e
 
   -- The byte n has the mask of a lower one, and joins its group.
   module _ (first : ℕ) (l : first < n) (e : getD masks first 0 ≡ getD masks n 0) where
-    each : (b : ℕ) → b < n + 1 → Like masks group (set group n (getD group first 0)) n b
-    each =
-        below-more (Like masks group (set group n (getD group first 0)) n) n
-        (λ b k. record { like = b; early = k; lower = omega arith; joins = at-old _ b k; mask = refl })
-        (record { like = first; early = l; lower = omega arith; joins = at-new _; mask = sym e })
+    joins : getD group first 0 ≡ numberOf (same masks) n
+    joins =
+        let on : 0 + first ≡ first = omega arith in
+        ap (λ l. getD l first 0) (t .numbered)
+        ∙ List·getD-append (map (numberOf (same masks)) (from 0 n)) (replicate (256 - n) 0) 0 first (omega (arith, numbers-size (numberOf (same masks)) n))
+        ∙ map-from (numberOf (same masks)) 0 n first l
+        ∙ ap (numberOf (same masks)) on
+        ∙ place-agree (λ x. same masks x first) (λ x. same masks x n) (lowestBytes (same masks)) (λ x m. shared-alike (same masks) (same-equivalence masks) first n (alike-same masks first n e) x)
+
+    not-lowest : isLowest (same masks) n ≡ false
+    not-lowest = ap not (T-true (any (λ c. same masks c n) (from 0 n)) (any-of (λ c. same masks c n) (from 0 n) first (member-from first 0 n (omega arith) (omega arith)) (alike-same masks first n e)))
+
+    unmoved : lowestBelow (same masks) n ≡ lowestBelow (same masks) (n + 1)
+    unmoved = sym (lowest-is false not-lowest ∙ append-nil _)
 
     pub turn-old : GroupedTo masks (n + 1) (set group n (getD group first 0)) lowest count
     turn-old =
         record {
-          long = length-set group n _ ∙ t .long;
-          room = t .room;
-          share = λ b c hb hc.
-              let x = each b hb in
-              let y = each c hc in
-              let s = t .share (x .like) (y .like) (x .early) (y .early) in
-              (λ q. x .mask ∙ s .0 (sym (x .joins) ∙ q ∙ y .joins) ∙ sym (y .mask), λ q. x .joins ∙ s .1 (sym (x .mask) ∙ q ∙ y .mask) ∙ sym (y .joins));
-          below = λ b hb. rw (each b hb .joins) (t .below (each b hb .like) (each b hb .early));
+          numbered = numbered _ joins;
+          lowly = t .lowly ∙ ap (λ l. l ++ replicate (256 - count) 0) unmoved;
+          counted = t .counted ∙ ap length unmoved;
           most = omega (arith, t .most);
-          used = λ k hk. (omega (arith, t .used k hk .0), at-old _ _ (t .used k hk .0) ∙ t .used k hk .1);
-          least = λ k b hk hb q.
-              let x = each b hb in
-              omega (arith, t .least k (x .like) hk (x .early) (sym (x .joins) ∙ q), x .lower);
         }
 
   -- No lower byte has the mask of n, which begins a group.
   module _ (none : (k : ℕ) → k < n → getD masks k 0 ≡ getD masks n 0 → ⊥) where
-    low-new : getD (set lowest count n) count 0 ≡ n
-    low-new = getD-set-same lowest count n 0 (omega (arith, t .room, t .most))
+    is-lowest : isLowest (same masks) n ≡ true
+    is-lowest =
+        ap not (not-true (any (λ c. same masks c n) (from 0 n))
+        (λ t. let (c, m, s) = any-found (λ c. same masks c n) (from 0 n) t in
+        none c (let i = from-range c 0 n m in omega arith) (eqb→eq (getD masks c 0) (getD masks n 0) s)))
 
-    low-old : (k : ℕ) → k < count → getD (set lowest count n) k 0 ≡ getD lowest k 0
-    low-old k l = getD-set-other lowest count k n 0 (λ e. omega arith)
-
-    -- The new group is no lower byte's.
-    apart : (b : ℕ) → b < n → getD (set group n count) b 0 ≡ getD (set group n count) n 0 → ⊥
-    apart b l q = omega (arith, t .below b l, at-old count b l, at-new count, q)
-
-    share-new : (b : ℕ) → b < n + 1 → (c : ℕ) → c < n + 1 → Share masks (set group n count) b c
-    share-new =
-        below-more (λ b. (c : ℕ) → c < n + 1 → Share masks (set group n count) b c) n
-        (λ b l. below-more (Share masks (set group n count) b) n
-        (λ c k. rw (at-old count b l, at-old count c k) (t .share b c l k))
-        (λ q. absurd (apart b l q), λ q. absurd (none b l q)))
-        (below-more (Share masks (set group n count) n) n
-        (λ c k. (λ q. absurd (apart c k (sym q)), λ q. absurd (none c k (sym q))))
-        (λ q. refl, λ q. refl))
-
-    used-new : (k : ℕ) → k < count + 1 → Used (set group n count) (set lowest count n) (n + 1) k
-    used-new =
-        below-more (Used (set group n count) (set lowest count n) (n + 1)) count
-        (λ k l. rw (low-old k l) (omega (arith, t .used k l .0), at-old count _ (t .used k l .0) ∙ t .used k l .1))
-        (rw low-new (omega arith, at-new count))
-
-    least-new : (k : ℕ) → k < count + 1 → (b : ℕ) → b < n + 1 → Least (set group n count) (set lowest count n) k b
-    least-new =
-        below-more (λ k. (b : ℕ) → b < n + 1 → Least (set group n count) (set lowest count n) k b) count
-        (λ k l. below-more (Least (set group n count) (set lowest count n) k) n
-        (λ b m q. rw (low-old k l) (t .least k b l m (sym (at-old count b m) ∙ q)))
-        (λ q. absurd (omega (arith, at-new count, q))))
-        (below-more (Least (set group n count) (set lowest count n) count) n
-        (λ b m q. absurd (apart b m (q ∙ sym (at-new count))))
-        (λ q. omega (arith, low-new)))
+    longer : lowestBelow (same masks) n ++ (n ∷ []) ≡ lowestBelow (same masks) (n + 1)
+    longer = sym (lowest-is true is-lowest)
 
     pub turn-new : GroupedTo masks (n + 1) (set group n count) (set lowest count n) (count + 1)
     turn-new =
         record {
-          long = length-set group n count ∙ t .long;
-          room = length-set lowest count n ∙ t .room;
-          share = λ b c hb hc. share-new b hb c hc;
-          below = below-more (λ b. getD (set group n count) b 0 < count + 1) n
-              (λ b l. omega (arith, at-old count b l, t .below b l))
-              (omega (arith, at-new count));
+          numbered = numbered count (t .counted ∙ sym (new-number (same masks) (same-equivalence masks) n h is-lowest));
+          lowly =
+              ap (λ l. set l count n) (t .lowly)
+              ∙ fill (lowestBelow (same masks) n) count n (sym (t .counted)) (omega (arith, t .most))
+              ∙ ap (λ l. l ++ replicate (256 - (count + 1)) 0) longer;
+          counted = (let s : length (lowestBelow (same masks) n ++ (n ∷ [])) ≡ length (lowestBelow (same masks) n) + 1 = length-append (lowestBelow (same masks) n) (n ∷ []) in omega (arith, t .counted, s)) ∙ ap length longer;
           most = omega (arith, t .most);
-          used = used-new;
-          least = λ k b hk hb. least-new k hk b hb;
         }

@@ -1,15 +1,23 @@
-// The byte groups of a pattern: bytes that no leaf tells apart.
+// The byte groups of a pattern, bytes that no leaf tells apart, and lines in bytes of the same groups that a person can read.
+ghost use mathlib.Core.Path.{_≡_};
+ghost use mathlib.Core.List.{map};
 ghost use Prim.Native.Nat.{_+_, _<_};
-ghost use Rattle.groups.specs.Grouped.{Grouped};
-ghost use Rattle.groups.specs.Turns.{FirstAlike, GroupedTo};
+ghost use lib.ListN.{getD};
+ghost use Rattle.groups.specs.Numbers.{groupsBy};
+ghost use Rattle.groups.specs.Readable.{isPrintable, printables, readableBy};
+ghost use Rattle.groups.specs.Turns.{same, FirstAlike, GroupedTo};
 
 pub struct Groups {
-    // the group of each byte
+    // the number of each byte's group
     pub group: [u8; 256],
-    // the lowest byte of each group
+    // the lowest byte of each group, with zeros after the last
     pub lowest: [u8; 256],
+    // how many groups there are
     pub count: usize,
 }
+
+// How many bytes are printable.
+const PRINTABLES: usize = 95;
 
 // The first byte that has the mask of b: b itself, if no lower one has it.
 fn first_with(masks: &[u64; 256], b: usize) -> usize
@@ -51,9 +59,9 @@ fn place(
     count + 1
 }
 
-// The groups of bytes with equal masks, numbered from 0 in the order of their lowest bytes.
+// The groups of bytes with equal masks, numbered by their lowest byte, upwards from 0 (request 3).
 pub fn groups_of(masks: &[u64; 256]) -> Groups
-    ensures grouped { λ r. ⌜ Grouped (now (masks .entry)) r ⌝ }
+    ensures grouped { λ r. ⌜ r ≡ groupsBy (same (now (masks .entry))) ⌝ }
 {
     let mut group = [0u8; 256];
     let mut lowest = [0u8; 256];
@@ -67,5 +75,55 @@ pub fn groups_of(masks: &[u64; 256]) -> Groups
         group,
         lowest,
         count,
+    }
+}
+
+fn is_printable(b: u8) -> bool
+    ensures { λ r. ⌜ r ≡ isPrintable b ⌝ }
+{
+    b' ' <= b && b <= b'~'
+}
+
+// The printable bytes in the order of preference, from the digits on, the space last: 48 to 126, 33 to 47, 32.
+fn printable(k: usize) -> u8
+    requires { ⌜ k < 95 ⌝ }
+    ensures { λ r. ⌜ r ≡ getD printables k 0 ⌝ }
+{
+    if k < 79 {
+        return (k + 48) as u8;
+    }
+    if k < 94 {
+        return (k - 46) as u8;
+    }
+    b' '
+}
+
+// The byte itself if it is printable or none of its group is, else the first printable one of its group.
+fn readable_byte(group: &[u8; 256], b: u8) -> u8
+    ensures { λ r. ⌜ r ≡ readableBy (same (now (group .entry))) b ⌝ }
+{
+    if is_printable(b) {
+        return b;
+    }
+    let own = group[words::wide(b)];
+    let mut k = 0;
+    while k < PRINTABLES {
+        let c = printable(k);
+        if group[words::wide(c)] == own {
+            return c;
+        }
+        k += 1;
+    }
+    b
+}
+
+// Replaces each byte of a line by a printable one of its group, where there is one.
+pub fn readable(group: &[u8; 256], line: &mut [u8])
+    ensures replaced { λ _. ⌜ now (line .exit) ≡ map (readableBy (same (now (group .entry)))) (now (line .entry)) ⌝ }
+{
+    let mut i = 0;
+    while i < line.len() {
+        line[i] = readable_byte(group, line[i]);
+        i += 1;
     }
 }

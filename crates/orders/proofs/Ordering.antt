@@ -12,6 +12,7 @@ use borrow.Author.Tests.{eq-eqb, ne-eqb}
 use Rattle.theory.specs.Pattern.{Re}
 use Rattle.theory.specs.Standing.{from}
 use Rattle.theory.specs.Spans.{nowhere, span}
+use Rattle.theory.proofs.Members.{from-snoc}
 use Rattle.traces.specs.Fields.{absent, fieldFrom, fieldAt}
 use Rattle.words.specs.Sets.{hasBit}
 use Rattle.fields.specs.declared.Piece.{Piece}
@@ -25,10 +26,6 @@ use Rattle.lines.specs.declared.State.{State}
 use Rattle.lines.specs.Lines.{rest, NextLine}
 use Rattle.lines.proofs.Serving.{Serving, serving-first, serving-next, serving-part, served}
 use Rattle.orders.specs.Orders.{OrderLine, FieldsOrder, Asked, spans, fields, askedBy, pairOf, Own, Answered, OrderAnswer, OrdersServed}
-
-from-snoc : (n k : ℕ) → from n (suc k) ≡ from n k ++ ((n + k) ∷ [])
-from-snoc n zero = let e : n ≡ n + 0 = omega arith in ap (λ i. i ∷ []) e
-from-snoc n (suc k) = let e : suc n + k ≡ n + suc k = omega arith in ap (λ l. n ∷ l) (from-snoc (suc n) k ∙ ap (λ i. from (suc n) k ++ (i ∷ [])) e)
 
 from-one : (k : ℕ) → from 1 (suc k) ≡ from 1 k ++ (suc k ∷ [])
 from-one k = let e : 1 + k ≡ suc k = omega arith in from-snoc 1 k ∙ ap (λ i. from 1 k ++ (i ∷ [])) e

@@ -12,8 +12,8 @@ use lib.Dec.{T, leb, leb→le, nleb→lt}
 use lib.ListN.{length, take, getD, set, length-append, length-take, length-set}
 use lib.Seq.{take-all, take-append-le, take-suc, take-suc-set, take-take, length-take-le}
 use Rattle.io.specs.Digits.{glyph, digits, Fewest}
-use Rattle.printing.specs.Text.{Appended, Field, hex, Printed, no-pairs, absent, between, pairAt, pairsOf}
-use Rattle.printing.specs.Puts.{Put, PutField, PutPair, PutPairs}
+use Rattle.printing.specs.Text.{Appended, Field, hex, Printed, no-fields, field, no-pairs, absent, between, pairAt, pairsOf}
+use Rattle.printing.specs.Puts.{Put, PutField, PutFields, PutPair, PutPairs}
 
 -- A part of x that is cut off does not count past the first m bytes.
 take-cut : (k m : ℕ) (x y : List ℕ) → (k < length x → m ≤ k) → take m (take k x ++ y) ≡ take m (x ++ y)
@@ -111,18 +111,17 @@ pub hex-size : (l : List ℕ) → length (hex l) ≡ 2 * length l
 hex-size [] = refl
 hex-size (b ∷ l) = omega (arith, hex-size l, length-append (digits 16 2 b) (hex l))
 
--- No line of spans is longer: two words, four numbers and a newline.
+-- No spans are longer: two words and four numbers.
 pub spans-size : (word from short second long : List ℕ) → length word ≡ 6 → length second ≡ 6 → length from ≤ 21 → length short ≤ 21 → length long ≤ 21
-    → length (word ++ (from ++ (short ++ (second ++ (from ++ (long ++ (10 ∷ []))))))) ≤ 97
+    → length (word ++ (from ++ (short ++ (second ++ (from ++ long))))) ≤ 96
 spans-size word from short second long e g f s l =
     omega (
       arith,
-      length-append word (from ++ (short ++ (second ++ (from ++ (long ++ (10 ∷ [])))))),
-      length-append from (short ++ (second ++ (from ++ (long ++ (10 ∷ []))))),
-      length-append short (second ++ (from ++ (long ++ (10 ∷ [])))),
-      length-append second (from ++ (long ++ (10 ∷ []))),
-      length-append from (long ++ (10 ∷ [])),
-      length-append long (10 ∷ []),
+      length-append word (from ++ (short ++ (second ++ (from ++ long)))),
+      length-append from (short ++ (second ++ (from ++ long))),
+      length-append short (second ++ (from ++ long)),
+      length-append second (from ++ long),
+      length-append from long,
     )
 
 -- One byte more of a slice, as it is and in hex.
@@ -211,6 +210,21 @@ put-more-pairs {a = a} {c = c} {n = n} {k = k} {f = f} {known = known} {places =
       most = omega (arith, length-append (p .text) (q .text), p .most, q .most);
       put = appended-join (p .put) (q .put);
     })
+
+-- Numbers, each after a space.
+pub put-no-fields : {a b : List ℕ} {n m : ℕ} → Put a n [] b m → PutFields [] a n b m
+put-no-fields p = record { text = []; fields = no-fields; most = omega arith; put = p }
+
+pub put-more-fields : {a b c : List ℕ} {n m k x : ℕ} (l : List ℕ) (i : ℕ) → PutFields (take i l) a n b m → PutField x b m c k → x ≡ getD l i 0 → i < length l → PutFields (take (i + 1) l) a n c k
+put-more-fields {a} {b} {c} {n} {m} {k} {x} l i p q e h = subst (λ v. PutFields v a n c k) (ap (λ y. take i l ++ (y ∷ [])) e ∙ take-more l i h) (record {
+  text = p .text ++ q .text;
+  fields = field (p .fields) (q .field);
+  most = omega (arith, length-append (p .text) (q .text), length-append (take i l) (x ∷ []), p .most, q .most);
+  put = appended-join (p .put) (q .put);
+})
+
+pub put-all-fields : {a b : List ℕ} {n m : ℕ} (l : List ℕ) (i : ℕ) → PutFields (take i l) a n b m → length l ≤ i → PutFields l a n b m
+put-all-fields {a} {b} {n} {m} l i p h = subst (λ v. PutFields v a n b m) (take-all i l h) p
 
 pub fields-size : (word from to second rest : List ℕ) {n : ℕ} → length word ≡ 6 → length second ≡ 7 → length from ≤ 21 → length to ≤ 21 → length rest ≤ 42 * n → n ≤ 8
     → length (word ++ (from ++ (to ++ (second ++ (rest ++ (10 ∷ [])))))) ≤ 392

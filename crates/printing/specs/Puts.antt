@@ -5,7 +5,7 @@ use Prim.Native.Nat.{ℕ, _*_, _≤_}
 use mathlib.Core.List.{List, [], _∷_, _++_}
 use mathlib.Core.Option.{Option}
 use lib.ListN.{length}
-use Rattle.printing.specs.Text.{Appended, Field, Pairs, pairsOf}
+use Rattle.printing.specs.Text.{Appended, Field, Fields, Pairs, pairsOf}
 
 -- w is appended, and the buffer keeps its length.
 pub record Put (old : List ℕ) (n : ℕ) (w : List ℕ) (new : List ℕ) (m : ℕ) : Type 0 where
@@ -39,4 +39,11 @@ pub record PutPair (pair : Option (ℕ × ℕ)) (old : List ℕ) (at : ℕ) (new
   pub text : List ℕ
   pub more : {l : List (Option (ℕ × ℕ))} {w : List ℕ} → Pairs l w → Pairs (l ++ (pair ∷ [])) (w ++ text)
   pub most : length text ≤ 42
+  pub put : Put old at text new m
+
+-- Numbers are appended, each of at most 21 bytes with its space.
+pub record PutFields (numbers : List ℕ) (old : List ℕ) (at : ℕ) (new : List ℕ) (m : ℕ) : Type 0 where
+  pub text : List ℕ
+  pub fields : Fields numbers text
+  pub most : length text ≤ 21 * length numbers
   pub put : Put old at text new m

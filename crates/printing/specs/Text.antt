@@ -101,13 +101,24 @@ pub record FieldsLine (start end : ℕ) (pairs : List (Option (ℕ × ℕ))) (w 
   pub are : Pairs pairs rest
   pub text : w ≡ (103 ∷ 114 ∷ 101 ∷ 101 ∷ 100 ∷ 121 ∷ []) ++ (from ++ (to ++ ((32 ∷ 102 ∷ 105 ∷ 101 ∷ 108 ∷ 100 ∷ 115 ∷ []) ++ (rest ++ (10 ∷ [])))))
 
--- The verdict unlike, without its newline, and after a space the spans of the witness.
-pub record ExplainedLine (count : ℕ) (witness : List ℕ) (start greedy posix : ℕ) (w : List ℕ) : Type 0 where
+-- The verdict unlike, without its newline, after a space the spans of the witness, and " readable ": the witness in readable bytes, in hex (request 3).
+pub record ExplainedLine (count : ℕ) (witness : List ℕ) (start greedy posix : ℕ) (readable : List ℕ) (w : List ℕ) : Type 0 where
   pub verdict : List ℕ
   pub spans : List ℕ
   pub is : UnlikeLine count witness (verdict ++ (10 ∷ []))
-  pub cut : SpansLine start greedy posix spans
-  pub text : w ≡ verdict ++ (32 ∷ spans)
+  pub cut : SpansLine start greedy posix (spans ++ (10 ∷ []))
+  pub text : w ≡ verdict ++ (32 ∷ (spans ++ ((32 ∷ 114 ∷ 101 ∷ 97 ∷ 100 ∷ 97 ∷ 98 ∷ 108 ∷ 101 ∷ 32 ∷ []) ++ (hex readable ++ (10 ∷ [])))))
+
+-- Numbers, each after a space.
+pub data Fields : List ℕ → List ℕ → Type 0 where
+  no-fields : Fields [] []
+  field : {l w u : List ℕ} {x : ℕ} → Fields l w → Field x u → Fields (l ++ (x ∷ [])) (w ++ u)
+
+-- "groups 0 0 1 ..": the number of each byte's group (request 3).
+pub record GroupsLine (numbers : List ℕ) (w : List ℕ) : Type 0 where
+  pub rest : List ℕ
+  pub are : Fields numbers rest
+  pub text : w ≡ (103 ∷ 114 ∷ 111 ∷ 117 ∷ 112 ∷ 115 ∷ []) ++ (rest ++ (10 ∷ []))
 
 -- So many bytes, and two for each byte of a witness.
 abbrev pub room : ℕ → List ℕ → ℕ

@@ -7,8 +7,8 @@ ghost use Prim.Native.Nat.{_<_, min};
 ghost use lib.ListN.{take};
 ghost use Rattle.io.specs.Digits.{digits};
 ghost use Rattle.io.specs.Digits.{glyph as Digits·glyph};
-ghost use Rattle.printing.specs.Text.{Appended, Printed, room, hex, AlikeLine, UnlikeLine, RefusedLine, AcceptedLine, SpansLine, FieldsLine, pairsOf, ExplainedLine, noneLine};
-ghost use Rattle.printing.specs.Puts.{Put, PutField, PutPair, PutPairs, PutLine, Unended};
+ghost use Rattle.printing.specs.Text.{Appended, Printed, room, hex, AlikeLine, UnlikeLine, RefusedLine, AcceptedLine, SpansLine, FieldsLine, pairsOf, ExplainedLine, GroupsLine, noneLine};
+ghost use Rattle.printing.specs.Puts.{Put, PutField, PutFields, PutPair, PutPairs, PutLine, Unended};
 
 // How many bytes of the buffer are in use: all of them where n is above its size.
 fn used(out: &[u8; 65536], n: usize) -> usize
@@ -142,23 +142,24 @@ pub fn none(out: &mut [u8; 65536], n: usize) -> usize
     put(out, n, b"none\n")
 }
 
+// 'greedy START END posix START END' without its newline
 fn put_spans(out: &mut [u8; 65536], n: usize, start: usize, greedy: usize, posix: usize) -> usize
-    ensures { λ r. ⌜ PutLine 97 (SpansLine start greedy posix) (now (out .entry)) n (now (out .exit)) r ⌝ }
+    ensures { λ r. ⌜ PutLine 96 (Unended (SpansLine start greedy posix)) (now (out .entry)) n (now (out .exit)) r ⌝ }
 {
     let first = put(out, n, b"greedy");
     let from = put_field(out, first, start);
     let short = put_field(out, from, greedy);
     let second = put(out, short, b" posix");
     let again = put_field(out, second, start);
-    let long = put_field(out, again, posix);
-    put_byte(out, long, b'\n')
+    put_field(out, again, posix)
 }
 
 // 'greedy START END posix START END'
 pub fn spans(out: &mut [u8; 65536], n: usize, start: usize, greedy: usize, posix: usize) -> usize
     ensures printed { λ r. ⌜ Printed 97 (SpansLine start greedy posix) (now (out .entry)) n (now (out .exit)) r ⌝ }
 {
-    put_spans(out, n, start, greedy, posix)
+    let both = put_spans(out, n, start, greedy, posix);
+    put_byte(out, both, b'\n')
 }
 
 // A space and '-', or the start and the end.
@@ -214,22 +215,48 @@ pub fn fields(
     put_byte(out, rest, b'\n')
 }
 
-// 'unlike COUNT WITNESS greedy START END posix START END': the verdict, and how the witness is cut
-pub fn explained(
+// 'unlike COUNT WITNESS greedy START END posix START END readable LINE': the verdict, how the witness is cut, and the first `length` bytes of its readable form in hex
+pub fn explained<'a>(
     out: &mut [u8; 65536],
     n: usize,
     count: usize,
     length: usize,
-    witness: &[u8],
+    witness: &'a [u8],
     start: usize,
     greedy: usize,
     posix: usize,
+    readable: &'a [u8],
 ) -> usize
-    ensures printed { λ r. ⌜ Printed (room 126 (take length (now (witness .entry)))) (ExplainedLine count (take length (now (witness .entry))) start greedy posix) (now (out .entry)) n (now (out .exit)) r ⌝ }
+    ensures printed { λ r. ⌜ Printed (room (room 136 (take length (now (witness .entry)))) (take length (now (readable .entry)))) (ExplainedLine count (take length (now (witness .entry))) start greedy posix (take length (now (readable .entry)))) (now (out .entry)) n (now (out .exit)) r ⌝ }
 {
     let verdict = put_unlike(out, n, count, length, witness);
     let gap = put_byte(out, verdict, b' ');
-    put_spans(out, gap, start, greedy, posix)
+    let both = put_spans(out, gap, start, greedy, posix);
+    let word = put(out, both, b" readable ");
+    let line = put_hex(out, word, readable, length);
+    put_byte(out, line, b'\n')
+}
+
+// Numbers, each after a space.
+fn put_numbers(out: &mut [u8; 65536], n: usize, numbers: &[u8]) -> usize
+    ensures { λ r. ⌜ PutFields (now (numbers .entry)) (now (out .entry)) n (now (out .exit)) r ⌝ }
+{
+    let mut m = used(out, n);
+    let mut i = 0;
+    while i < numbers.len() {
+        m = put_field(out, m, words::wide(numbers[i]));
+        i += 1;
+    }
+    m
+}
+
+// 'groups NUMBER ..', the number of each byte's group
+pub fn groups(out: &mut [u8; 65536], n: usize, numbers: &[u8; 256]) -> usize
+    ensures printed { λ r. ⌜ Printed 5383 (GroupsLine (now (numbers .entry))) (now (out .entry)) n (now (out .exit)) r ⌝ }
+{
+    let word = put(out, n, b"groups");
+    let all = put_numbers(out, word, numbers);
+    put_byte(out, all, b'\n')
 }
 
 // The bytes of a slice in hex, on a line.

@@ -10,7 +10,7 @@ use lib.Dec.{eqb}
 use Rattle.theory.specs.Standing.{from}
 use Rattle.grammar.specs.Grammar.{kind, special, inside, marked}
 use Rattle.grammar.specs.Sets.{bitIf, spans}
-use Rattle.grammar.proofs.Sets.{map-from}
+use Rattle.theory.proofs.Members.{map-from}
 
 -- The tests f and g agree at each byte if they do in a list of all.
 abbrev bits : (ℕ → Bool) → ℕ → ℕ

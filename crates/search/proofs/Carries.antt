@@ -43,10 +43,10 @@ module _ {a : Arrays} {s after : Standing} {q c n : ℕ} {t v : List ℕ} {k : �
     look = rw recorded at looked
 
   -- A record has the standing.
-  pub carry-known : {m : ℕ} → k < n → Turned (Unit {0}) a s q c n m t (Clear n) t
+  pub carry-known : {m : ℕ} → k < n → Turned a s q c n m t (Clear n) t
   carry-known h = record {
     within = λ g. g;
-    leads = λ u l e byte w. known-turn (l .numbered) w byte k h (found _ (w .state .holds) (l .numbered) (l .most) (line w) q c (w .state .size) (look l w) h);
+    leads = λ l e byte w. known-turn (l .numbered) w byte k h (found _ (w .state .holds) (l .numbered) (l .most) (line w) q c (w .state .size) (look l w) h);
   }
 
   module _ (h : n ≤ k) where
@@ -54,8 +54,8 @@ module _ {a : Arrays} {s after : Standing} {q c n : ℕ} {t v : List ℕ} {k : �
     none {r} l w = not-found r (w .state .holds) (l .numbered) (l .most) (line w) q c (w .state .size) (look l w) h
 
     -- None has, and no slot is left.
-    pub carry-full : {m : ℕ} → m ≤ n → Turned (Unit {0}) a s q c n m t Full t
-    carry-full g = record { within = tt; leads = λ u l e byte w. full-turn (l .numbered) w byte (none l w) (omega arith) }
+    pub carry-full : {m : ℕ} → m ≤ n → Turned a s q c n m t Full t
+    carry-full g = record { within = tt; leads = λ l e byte w. full-turn (l .numbered) w byte (none l w) (omega arith) }
 
     -- None has, and the next slot gets it.
     module _ {m : ℕ} (g : n < m) {t′ : List ℕ} (stored : t′ ≡ put t n v) where
@@ -65,19 +65,19 @@ module _ {a : Arrays} {s after : Standing} {q c n : ℕ} {t v : List ℕ} {k : �
           ∙ slot-there t n _ t (omega (arith, same-length r (w .state .holds), slots-fit (length t₀)))
           ∙ ap (stores t (64 * n)) (recorded l w)
 
-      pub carry-new : (after .some && not (after .first)) ≡ false → Turned (Unit {0}) a s q c n m t (Clear (n + 1)) t′
+      pub carry-new : (after .some && not (after .first)) ≡ false → Turned a s q c n m t (Clear (n + 1)) t′
       carry-new f = record {
         within = λ i. omega arith;
-        leads = λ u {r} {t₀} l e byte w.
+        leads = λ {r} {t₀} l e byte w.
             let more : suc n ≡ n + 1 = omega arith in
             subst (λ x. Working r t₀ s q (suc c) x t′) more
             (new-turn (l .numbered) w byte (none l w) (omega arith) (written l e w) (λ i. true≢false (sym (T-true _ i) ∙ shows l w ∙ f)));
       }
 
-      pub carry-witness : (after .some && not (after .first)) ≡ true → Turned (Unit {0}) a s q c n m t (Witness (n + 1)) t′
+      pub carry-witness : (after .some && not (after .first)) ≡ true → Turned a s q c n m t (Witness (n + 1)) t′
       carry-witness f = record {
         within = tt;
-        leads = λ u {r} {t₀} l e byte w.
+        leads = λ {r} {t₀} l e byte w.
             let more : suc n ≡ n + 1 = omega arith in
             subst (λ x. WitnessFound r t₀ x t′) more (witness-turn (l .numbered) w byte (none l w) (omega arith) (written l e w) (true-T _ (shows l w ∙ f)));
       }

@@ -11,7 +11,8 @@ use Rattle.theory.specs.Code.Search.{Search}
 use Rattle.verdict.specs.Table.{slots}
 use Rattle.standing.specs.declared.Standing.{Standing}
 use Rattle.standing.specs.Stands.{Arrays, Lent, Stands}
-use Rattle.groups.specs.Grouped.{Grouped}
+use Rattle.groups.specs.Numbers.{groupsBy}
+use Rattle.groups.specs.Turns.{same}
 use Rattle.search.specs.declared.Progress.{Progress}
 use Rattle.search.specs.declared.Progress.the-variants as Progress
 use Rattle.search.specs.Ends.{HoldsRecords, AllFound, Reached}
@@ -35,16 +36,16 @@ Within m n (Progress.Clear k) = n ≤ m → k ≤ m
 Within m n (Progress.Witness k) = Unit {0}
 Within m n Progress.Full = Unit {0}
 
--- The bytes' groups are those of the masks.
-abbrev pub Grouping : List ℕ → List ℕ → List ℕ → Type 0
-Grouping masks group lowest = (n : ℕ) × Grouped masks (record { group = group; lowest = lowest; count = n })
+-- The lowest bytes of the groups, and how many there are, are those of the masks.
+abbrev pub Grouping : List ℕ → List ℕ → ℕ → Type 0
+Grouping masks lowest count = (lowest ≡ groupsBy (same masks) .lowest) × (count ≡ groupsBy (same masks) .count)
 
--- What the byte c leads to from record q, by what is known of the groups.
-pub record Turned (known : Type 0) (a : Arrays) (s : Standing) (q c n m : ℕ) (t : List ℕ) (p : Progress) (t′ : List ℕ) : Type 0 where
+-- What the byte c leads to from record q.
+pub record Turned (a : Arrays) (s : Standing) (q c n m : ℕ) (t : List ℕ) (p : Progress) (t′ : List ℕ) : Type 0 where
   pub within : Within m n p
-  pub leads : known → {r : Re} {t₀ : List ℕ} → Lent r a → m ≡ slots (length t₀) → c < 256 → Working r t₀ s q c n t → Reached r t₀ t′ (λ k. Working r t₀ s q (suc c) k t′) p
+  pub leads : {r : Re} {t₀ : List ℕ} → Lent r a → m ≡ slots (length t₀) → c < 256 → Working r t₀ s q c n t → Reached r t₀ t′ (λ k. Working r t₀ s q (suc c) k t′) p
 
--- What all bytes lead to from record q.
+-- What all bytes lead to from record q, by what is known of the groups.
 pub record Worked (known : Type 0) (a : Arrays) (q n m : ℕ) (t : List ℕ) (p : Progress) (t′ : List ℕ) : Type 0 where
   pub within : Within m n p
   pub leads : known → {r : Re} {t₀ : List ℕ} → Lent r a → m ≡ slots (length t₀) → q < n → Searching r t₀ q 0 n t → Reached r t₀ t′ (λ k. Searching r t₀ (suc q) 0 k t′) p

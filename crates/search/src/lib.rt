@@ -1,10 +1,8 @@
-// The search through a pattern's standings. The table is the queue: each record in turn is carried on by each byte, upwards, and a standing that no record has gets the next slot.
+// The search through a pattern's standings. The table is the queue: each record in turn is carried on by the lowest byte of each group, upwards, and a standing that no record has gets the next slot.
 // It ends when no record is left, at the first witness, or when a record is needed and no slot is left.
 ghost use mathlib.Core.Path.{_≡_};
 ghost use mathlib.Core.Bool.{not, _&&_};
-ghost use Prim.Native.Nat.{_≤_, _<_, min};
-ghost use lib.ListN.{getD};
-ghost use lib.Dec.{eqb};
+ghost use Prim.Native.Nat.{_≤_, _<_};
 ghost use Rattle.verdict.specs.Table.{slots};
 ghost use Rattle.standing.specs.Stands.{arrays};
 ghost use Rattle.search.specs.Ends.{Searched};
@@ -34,13 +32,6 @@ fn is_witness(first: bool, some: bool) -> bool
     some && !first
 }
 
-// Whether the byte c is the lowest of its group: the others lead nowhere else.
-fn leads(c: u8, group: &[u8; 256], lowest: &[u8; 256]) -> bool
-    ensures { λ r. ⌜ r ≡ eqb (getD (now (lowest .entry)) (getD (now (group .entry)) c 0) 0) c ⌝ }
-{
-    lowest[words::wide(group[words::wide(c)])] == c
-}
-
 // Record q, whose standing is s, carried on by the byte c. The table has n records, and so many slots.
 fn carry<'a>(
     table: &mut [u8],
@@ -55,7 +46,7 @@ fn carry<'a>(
     sets: &'a [u64; 65],
     ends: &'a [u8; 65],
 ) -> Progress
-    ensures { λ r. ⌜ Turned (Unit {0}) (arrays (now (masks .entry)) (now (rows .entry)) (now (lens .entry)) (now (sets .entry)) (now (ends .entry))) s q c n slots (now (table .entry)) r (now (table .exit)) ⌝ }
+    ensures { λ r. ⌜ Turned (arrays (now (masks .entry)) (now (rows .entry)) (now (lens .entry)) (now (sets .entry)) (now (ends .entry))) s q c n slots (now (table .entry)) r (now (table .exit)) ⌝ }
 {
     let after = s.next(c, masks, rows, lens, sets, ends);
     let v = records::pack(after, q, c);
@@ -72,70 +63,45 @@ fn carry<'a>(
     Progress::Clear(n + 1)
 }
 
-// The same for a byte that leads its group; another leads nowhere else.
-fn turn<'a>(
-    table: &mut [u8],
-    s: Standing,
-    q: usize,
-    c: u8,
-    n: usize,
-    slots: usize,
-    group: &'a [u8; 256],
-    lowest: &'a [u8; 256],
-    masks: &'a [u64; 256],
-    rows: &'a [u8; 4225],
-    lens: &'a [u8; 65],
-    sets: &'a [u64; 65],
-    ends: &'a [u8; 65],
-) -> Progress
-    ensures { λ r. ⌜ Turned (Grouping (now (masks .entry)) (now (group .entry)) (now (lowest .entry))) (arrays (now (masks .entry)) (now (rows .entry)) (now (lens .entry)) (now (sets .entry)) (now (ends .entry))) s q c n slots (now (table .entry)) r (now (table .exit)) ⌝ }
-{
-    if leads(c, group, lowest) {
-        return carry(table, s, q, c, n, slots, masks, rows, lens, sets, ends);
-    }
-    Progress::Clear(n)
-}
-
-// Record q carried on by each byte, upwards.
+// Record q carried on by the lowest byte of each group, upwards: the others lead nowhere else.
 fn work<'a>(
     table: &mut [u8],
     q: usize,
     n: usize,
     slots: usize,
-    group: &'a [u8; 256],
     lowest: &'a [u8; 256],
+    count: usize,
     masks: &'a [u64; 256],
     rows: &'a [u8; 4225],
     lens: &'a [u8; 65],
     sets: &'a [u64; 65],
     ends: &'a [u8; 65],
 ) -> Progress
-    ensures { λ r. ⌜ Worked (Grouping (now (masks .entry)) (now (group .entry)) (now (lowest .entry))) (arrays (now (masks .entry)) (now (rows .entry)) (now (lens .entry)) (now (sets .entry)) (now (ends .entry))) q n slots (now (table .entry)) r (now (table .exit)) ⌝ }
+    requires { ⌜ count ≤ 256 ⌝ }
+    ensures { λ r. ⌜ Worked (Grouping (now (masks .entry)) (now (lowest .entry)) count) (arrays (now (masks .entry)) (now (rows .entry)) (now (lens .entry)) (now (sets .entry)) (now (ends .entry))) q n slots (now (table .entry)) r (now (table .exit)) ⌝ }
 {
     let s = records::unpack(table::load(table, q));
     let mut n = n;
-    let mut c = 0usize;
-    while c < 256 {
-        let p = turn(
+    let mut k = 0;
+    while k < count {
+        let p = carry(
             table,
             s,
             q,
-            c as u8,
+            lowest[k],
             n,
             slots,
-            group,
-            lowest,
             masks,
             rows,
             lens,
             sets,
             ends,
         );
-        let Progress::Clear(k) = p else {
+        let Progress::Clear(more) = p else {
             return p;
         };
-        n = k;
-        c += 1;
+        n = more;
+        k += 1;
     }
     Progress::Clear(n)
 }
@@ -144,16 +110,16 @@ fn work<'a>(
 fn run<'a>(
     table: &mut [u8],
     slots: usize,
-    group: &'a [u8; 256],
     lowest: &'a [u8; 256],
+    count: usize,
     masks: &'a [u64; 256],
     rows: &'a [u8; 4225],
     lens: &'a [u8; 65],
     sets: &'a [u64; 65],
     ends: &'a [u8; 65],
 ) -> Progress
-    requires { ⌜ (0 < slots) × (slots ≤ 65535) ⌝ }
-    ensures { λ r. ⌜ Run (Grouping (now (masks .entry)) (now (group .entry)) (now (lowest .entry))) (arrays (now (masks .entry)) (now (rows .entry)) (now (lens .entry)) (now (sets .entry)) (now (ends .entry))) slots (now (table .entry)) r (now (table .exit)) ⌝ }
+    requires { ⌜ (0 < slots) × (slots ≤ 65535) × (count ≤ 256) ⌝ }
+    ensures { λ r. ⌜ Run (Grouping (now (masks .entry)) (now (lowest .entry)) count) (arrays (now (masks .entry)) (now (rows .entry)) (now (lens .entry)) (now (sets .entry)) (now (ends .entry))) slots (now (table .entry)) r (now (table .exit)) ⌝ }
 {
     let mut n = 1;
     let mut q = 0;
@@ -163,8 +129,8 @@ fn run<'a>(
             q,
             n,
             slots,
-            group,
             lowest,
+            count,
             masks,
             rows,
             lens,
@@ -196,10 +162,19 @@ pub fn search<'a>(
         return Progress::Full;
     }
     let g = groups::groups_of(masks);
-    let group = g.group;
     let lowest = g.lowest;
     let s = Standing::initial(masks, rows, lens, sets, ends);
     let v = records::pack(s, 0, 0);
     table::store(table, 0, &v);
-    run(table, slots, &group, &lowest, masks, rows, lens, sets, ends)
+    run(
+        table,
+        slots,
+        &lowest,
+        g.count,
+        masks,
+        rows,
+        lens,
+        sets,
+        ends,
+    )
 }

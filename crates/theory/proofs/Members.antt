@@ -4,10 +4,10 @@ use mathlib.Core.Path.{_≡_, refl, sym, ap, _∙_, subst}
 use mathlib.Core.Logic.{_⊎_, inl, inr, _≢_}
 use Prim.Native.Nat.{ℕ, zero, suc, _+_, _≤_, _<_}
 use mathlib.Core.Bool.{Bool, true, false, _||_, cond, true≢false}
-use mathlib.Core.List.{List, [], _∷_, _++_}
+use mathlib.Core.List.{List, [], _∷_, _++_, map}
 use native.Mathlib.Omega.{arith}
 use native.Mathlib.Decide.{ℕ-discrete}
-use lib.ListN.{length, length-append}
+use lib.ListN.{length, getD, length-append}
 use lib.Dec.{T, eqb, eqb→eq, eqb-refl}
 use Rattle.theory.specs.Standing.{member, gather, from, filter}
 use Rattle.theory.specs.Code.Members.{any, Once, nil, cons}
@@ -101,6 +101,37 @@ member-from p n (suc d) g h =
 pub length-from : (n d : ℕ) → length (from n d) ≡ d
 length-from n zero = refl
 length-from n (suc d) = ap suc (length-from (suc n) d)
+
+-- Entry b of a table of the numbers from n on.
+pub map-from : (f : ℕ → ℕ) (n d b : ℕ) → b < d → getD (map f (from n d)) b 0 ≡ f (n + b)
+map-from f n zero b h = absurd (omega arith)
+map-from f n (suc d) zero h = let e : n ≡ n + 0 = omega arith in ap f e
+map-from f n (suc d) (suc b) h = let e : suc n + b ≡ n + suc b = omega arith in map-from f (suc n) d b (omega arith) ∙ ap f e
+
+pub from-append : (n d e : ℕ) → from n (d + e) ≡ from n d ++ from (n + d) e
+from-append n zero e = let (h, i) : (0 + e ≡ e) × (n ≡ n + 0) = omega arith in ap (from n) h ∙ ap (λ k. from k e) i
+from-append n (suc d) e =
+    let (h, i) : (suc d + e ≡ suc (d + e)) × (suc n + d ≡ n + suc d) = omega arith in
+    ap (from n) h ∙ ap (λ l. n ∷ l) (from-append (suc n) d e ∙ ap (λ k. from (suc n) d ++ from k e) i)
+
+pub from-snoc : (n d : ℕ) → from n (suc d) ≡ from n d ++ ((n + d) ∷ [])
+from-snoc n d = let h : suc d ≡ d + 1 = omega arith in ap (from n) h ∙ from-append n d 1
+
+pub filter-append : (f : ℕ → Bool) (l m : List ℕ) → filter f (l ++ m) ≡ filter f l ++ filter f m
+filter-append f [] m = refl
+filter-append f (p ∷ l) m = go (f p) (filter-append f l m)
+  where
+    go : (c : Bool) → filter f (l ++ m) ≡ filter f l ++ filter f m → cond c (p ∷ filter f (l ++ m)) (filter f (l ++ m)) ≡ cond c (p ∷ filter f l) (filter f l) ++ filter f m
+    go true e = ap (λ k. p ∷ k) e
+    go false e = e
+
+pub filter-size : (f : ℕ → Bool) (l : List ℕ) → length (filter f l) ≤ length l
+filter-size f [] = omega arith
+filter-size f (p ∷ l) = go (f p) (filter-size f l)
+  where
+    go : (b : Bool) → length (filter f l) ≤ length l → length (cond b (p ∷ filter f l) (filter f l)) ≤ suc (length l)
+    go true s = omega arith
+    go false s = omega arith
 
 once-snoc : {l : List ℕ} (p : ℕ) → Once l → (T (member p l) → ⊥) → Once (l ++ (p ∷ []))
 once-snoc p nil h = cons (λ t. t) nil

@@ -18,7 +18,7 @@ use Rattle.theory.specs.Code.Search.{SearchEnd, alike, unlike, full}
 use Rattle.theory.proofs.Tests.{or-left, or-right}
 use Rattle.theory.proofs.Sizes.{order-below, order-size}
 use Rattle.theory.proofs.Run.{check}
-use Rattle.theory.proofs.Members.{length-from}
+use Rattle.theory.proofs.Members.{length-from, filter-size}
 use Rattle.verdict.proofs.Words.{pigeons}
 
 -- A digit below b, and a number above it.
@@ -78,14 +78,6 @@ filter-small f c (p ∷ l) h = go (f p) (filter-small f c l (h .1))
     go : (b : Bool) → Small c (filter f l) → Small c (cond b (p ∷ filter f l) (filter f l))
     go true s = (h .0, s)
     go false s = s
-
-filter-size : (f : ℕ → Bool) (l : List ℕ) → length (filter f l) ≤ length l
-filter-size f [] = omega arith
-filter-size f (p ∷ l) = go (f p) (filter-size f l)
-  where
-    go : (b : Bool) → length (filter f l) ≤ length l → length (cond b (p ∷ filter f l) (filter f l)) ≤ suc (length l)
-    go true s = omega arith
-    go false s = omega arith
 
 from-small : (c n d : ℕ) → n + d ≤ c → Small c (from n d)
 from-small c n zero h = tt

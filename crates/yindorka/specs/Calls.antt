@@ -19,12 +19,14 @@ use Rattle.matchers.specs.Tables.{Tables, Ready}
 use Rattle.reader.specs.declared.Answer.{Answer}
 use Rattle.reader.specs.declared.Answer.the-variants.{Accepted, Refused}
 use Rattle.readings.specs.Tables as Readings
+use Rattle.screen.specs.declared.Counted as Screen
+use Rattle.screen.specs.Shows.{Shows, Rewrites}
 use Rattle.checker.specs.declared.Verdict.{Verdict}
 use Rattle.checker.specs.declared.Verdict.the-variants.{Alike, Unlike}
 use Rattle.checker.specs.declared.Verdict.the-variants as Verdicts
 use Rattle.checker.specs.Verdicts.{Checks}
 use Rattle.yindorka.specs.declared.Refusal.{Refusal}
-use Rattle.yindorka.specs.declared.FieldsRefusal.{FieldsRefusal}
+use Rattle.yindorka.specs.declared.Counted.{Counted}
 use Rattle.yindorka.specs.declared.Spanned.{Spanned}
 use Rattle.yindorka.specs.declared.Outcome.{Outcome}
 
@@ -32,6 +34,10 @@ use Rattle.yindorka.specs.declared.Outcome.{Outcome}
 abbrev pub refusalOf : Answer → Refusal
 refusalOf Accepted = record { number = 0; place = 0 }
 refusalOf (Refused n k) = record { number = n; place = k }
+
+-- The same with a count.
+abbrev pub countedOf : Answer → ℕ → Counted
+countedOf x n = record { number = refusalOf x .number; place = refusalOf x .place; count = n }
 
 -- The tables are an accepted pattern's own, or they are kept.
 pub record Prepares (p : List ℕ) (old : Tables) (r : Refusal) (new : Tables) : Type 0 where
@@ -49,13 +55,10 @@ pub record Cuts (t : Tables) (w old : List ℕ) (x : ℕ) (new : List ℕ) : Typ
   pub cut : {r : Re} → Ready r t → CutTo r w old x new
 
 -- The same for fields, with their number.
-abbrev pub fieldsRefusalOf : Prepared → FieldsRefusal
-fieldsRefusalOf x = record { number = refusalOf (x .answer) .number; place = refusalOf (x .answer) .place; count = x .count }
-
-pub record PreparesFields (p : List ℕ) (old : Lent) (r : FieldsRefusal) (new : Lent) : Type 0 where
+pub record PreparesFields (p : List ℕ) (old : Lent) (r : Counted) (new : Lent) : Type 0 where
   pub answer : Prepared
   pub prepared : Fields.Prepares p old answer new
-  pub means : r ≡ fieldsRefusalOf answer
+  pub means : r ≡ countedOf (answer .answer) (answer .count)
 
 -- Found 1: the greedy span's start and end; place f is the start of the field f + 1 and place 8 + f its end, each if its bit is set, and the field is absent without
 -- them. Found 0: there is none, and the places are kept.
@@ -70,6 +73,18 @@ pub data FieldsTo (r : Re) (w old : List ℕ) : Spanned → List ℕ → Type 0 
 -- For the pattern of which the tables and masks are.
 pub record CutsFields (t : Lent) (w old : List ℕ) (x : Spanned) (new : List ℕ) : Type 0 where
   pub cut : {r : Re} → Ready r (t .tables) → Marks r (t .marks) → FieldsTo r w old x new
+
+-- The groups of an accepted pattern, by their numbers; the arrays of a refused one are kept.
+pub record ShowsGroups (p group lowest : List ℕ) (r : Counted) (group′ lowest′ : List ℕ) : Type 0 where
+  pub own : Screen.Counted
+  pub shown : Shows p group lowest own group′ lowest′
+  pub means : r ≡ countedOf (own .answer) (own .count)
+
+-- The line in readable bytes, for an accepted pattern; that of a refused one is kept.
+pub record RewritesLine (p w : List ℕ) (r : Refusal) (w′ : List ℕ) : Type 0 where
+  pub answer : Answer
+  pub rewritten : Rewrites p w answer w′
+  pub means : r ≡ refusalOf answer
 
 -- Kind 0: alike with the record count. 1: unlike with the count and the witness's length. 2: refused with number and place.
 abbrev pub outcomeOf : Verdict → Outcome

@@ -1,8 +1,9 @@
-// The library for other languages: a pattern's tables, both spans of a line by them, the fields of its greedy span, and the checker. No function keeps a state, allocates or fails: a pattern that is no pattern is refused.
+// The library for other languages: a pattern's tables, both spans of a line by them, the fields of its greedy span, its byte groups, and the checker. No function keeps a state, allocates or
+// fails: a pattern that is no pattern is refused.
 ghost use mathlib.Core.Path.{_≡_};
 ghost use Rattle.matchers.specs.Tables.{tables};
 ghost use Rattle.fields.specs.Cuts.{lent};
-ghost use Rattle.yindorka.specs.Calls.{refusalOf, Prepares, Cuts, PreparesFields, CutsFields, Decided, outcomeOf};
+ghost use Rattle.yindorka.specs.Calls.{refusalOf, countedOf, Prepares, Cuts, PreparesFields, CutsFields, ShowsGroups, RewritesLine, Decided, outcomeOf};
 use checker::Verdict;
 use matchers::Spans;
 use reader::Answer;
@@ -14,9 +15,9 @@ pub struct Refusal {
     pub place: usize,
 }
 
-// Number 0 for an accepted pattern, with how many fields it has; else paper 01's number or 12, and the place.
+// Number 0 for an accepted pattern, with how many fields or groups it has; else paper 01's number, or 12 for fields, and the place.
 #[repr(C)]
-pub struct FieldsRefusal {
+pub struct Counted {
     pub number: usize,
     pub place: usize,
     pub count: usize,
@@ -51,6 +52,17 @@ fn refusal_of(x: Answer) -> Refusal
             number: number as usize,
             place: place,
         },
+    }
+}
+
+fn counted_of(x: Answer, count: usize) -> Counted
+    ensures { λ r. ⌜ r ≡ countedOf x count ⌝ }
+{
+    let refusal = refusal_of(x);
+    Counted {
+        number: refusal.number,
+        place: refusal.place,
+        count,
     }
 }
 
@@ -114,19 +126,14 @@ pub extern "C" fn yindorka_prepare_fields(
     next: &mut [u64; 257],
     hows: &mut [u8; 10],
     marks: &mut [u16; 4225],
-) -> FieldsRefusal
+) -> Counted
     ensures prepared { λ r. ⌜ PreparesFields (now (pattern .entry))
         (lent (tables (now (masks .entry)) (now (rows .entry)) (now (lens .entry)) (now (sets .entry)) (now (ends .entry)) (now (next .entry)) (now (hows .entry))) (now (marks .entry))) r
         (lent (tables (now (masks .exit)) (now (rows .exit)) (now (lens .exit)) (now (sets .exit)) (now (ends .exit)) (now (next .exit)) (now (hows .exit))) (now (marks .exit))) ⌝ }
 {
     let ready = fields::prepare(pattern, masks, rows, lens, sets, ends, next, hows, marks);
     let answer = ready.answer;
-    let refusal = refusal_of(answer);
-    FieldsRefusal {
-        number: refusal.number,
-        place: refusal.place,
-        count: ready.count,
-    }
+    counted_of(answer, ready.count)
 }
 
 // The greedy span of a line of any length with its fields: field f begins at places[f - 1] and ends at places[f + 7]. Without a span the places are kept.
@@ -165,6 +172,28 @@ pub extern "C" fn yindorka_cut_fields<'a>(
     }
 }
 
+// The byte groups of a pattern: the number of each byte's group, and the lowest byte of each group, with zeros after the last. A refused pattern leaves both as they are.
+#[no_mangle]
+pub extern "C" fn yindorka_groups(
+    pattern: &[u8],
+    group: &mut [u8; 256],
+    lowest: &mut [u8; 256],
+) -> Counted
+    ensures shown { λ r. ⌜ ShowsGroups (now (pattern .entry)) (now (group .entry)) (now (lowest .entry)) r (now (group .exit)) (now (lowest .exit)) ⌝ }
+{
+    let own = screen::groups(pattern, group, lowest);
+    let answer = own.answer;
+    counted_of(answer, own.count)
+}
+
+// Replaces each byte of a line by a printable byte of its group, where there is one. A refused pattern leaves the line as it is.
+#[no_mangle]
+pub extern "C" fn yindorka_readable(pattern: &[u8], line: &mut [u8]) -> Refusal
+    ensures replaced { λ r. ⌜ RewritesLine (now (pattern .entry)) (now (line .entry)) r (now (line .exit)) ⌝ }
+{
+    refusal_of(screen::readable(pattern, line))
+}
+
 fn numbers_of(x: Verdict) -> Outcome
     ensures { λ r. ⌜ r ≡ outcomeOf x ⌝ }
 {
@@ -195,10 +224,10 @@ pub extern "C" fn yindorka_check(pattern: &[u8], table: &mut [u8], witness: &mut
     numbers_of(checker::check(pattern, table, witness))
 }
 
-// The version of the library: 10200 is 1.2.0.
+// The version of the library: 10300 is 1.3.0.
 #[no_mangle]
 pub extern "C" fn yindorka_version() -> u32
-    ensures version { λ r. ⌜ r ≡ 10200 ⌝ }
+    ensures version { λ r. ⌜ r ≡ 10300 ⌝ }
 {
-    10200
+    10300
 }

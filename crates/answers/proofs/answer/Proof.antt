@@ -1,23 +1,30 @@
--- `answers::answer` meets its contract: the line is that of the checker's verdict.
+-- `answers::answer` meets its contract, whatever is asked.
 -- Assumes nothing.
+use mathlib.Core.Path.{refl}
 use native.Mathlib.Omega.{arith}
-use Rattle.verdict.proofs.Demand.{lengths-kept}
 use borrow.Author.Needs.{needs}
 use Rattle.answers.proofs.answer.Statement.{statement}
 use Rattle.answers.proofs.answer.Tie as tie
 
 returns : tie.Need-returns
-returns c =
-    let x = c .before .before .before .before .before .check in
-    let p = c .explained .ensures _ _ _ (x .ensures) in
-    (p .0, record { verdict = x .result; checks = x .ensures; line = rw (c .before .before .before .before .if1 .taken) (p .1) }, omega (arith, p .2, lengths-kept (x .ensures) .1), p .3)
+returns c = let l = c .judge .ensures in rw (c .before .before .before .before .enum-told .given .1) (l .0, l .1, omega (arith, l .2), l .3)
 
 returns-2 : tie.Need-returns-2
-returns-2 c =
-    let x = c .before .before .before .before .before .check in
-    let p = c .verdict .ensures in
-    (p .0, record { verdict = x .result; checks = x .ensures; line = rw (c .before .before .before .before .if1 .left) (p .1) }, omega (arith, p .2, lengths-kept (x .ensures) .1), p .3)
+returns-2 c = let l = c .judge2 .ensures in rw (c .before .before .before .before .enum-told2 .given .1) (l .0, l .1, omega (arith, l .2), l .3)
+
+returns-3 : tie.Need-returns-3
+returns-3 c = let l = c .list-groups .ensures in rw (c .before .before .enum-told3 .given .1) (l .0, (l .1, refl), l .2, l .3)
 
 pub answer-spec : {M : Type 1} → statement M
 answer-spec =
-    tie.close (tie.spec (λ c κs. search needs) (λ c κs. search needs) returns (λ c κs. search needs) returns-2)
+    tie.close
+    (tie.spec
+    (λ c. search needs)
+    (λ c κs. search needs)
+    (λ c. search needs)
+    (λ c κs. search needs)
+    (λ c. search needs)
+    (λ c κs. search needs)
+    returns
+    returns-2
+    returns-3)

@@ -10,10 +10,10 @@ use Rattle.search.proofs.run.Statement.{statement}
 use Rattle.search.proofs.run.Tie as tie
 
 abbrev Inv-loop : tie.InvT-loop
-Inv-loop table₀ slots group lowest masks rows lens sets ends n₀ q₀ table n q = AtRecord (arrays masks rows lens sets ends) (Grouping masks group lowest) slots table₀ q n table
+Inv-loop table₀ slots lowest count masks rows lens sets ends n₀ q₀ table n q = AtRecord (arrays masks rows lens sets ends) (Grouping masks lowest count) slots table₀ q n table
 
 abbrev μ-loop : tie.MeasureT-loop
-μ-loop table₀ slots group lowest masks rows lens sets ends n₀ q₀ table n q = slots - q
+μ-loop table₀ slots lowest count masks rows lens sets ends n₀ q₀ table n q = slots - q
 
 loop-holds : tie.Need-loop-holds Inv-loop μ-loop
 loop-holds c = record-start (c .before .pre .0)

@@ -2,7 +2,7 @@
 -- Assumes nothing.
 use native.Mathlib.Omega.{arith}
 use borrow.Author.Needs.{needs}
-use Rattle.search.proofs.Begins.{search-nowhere, search-run}
+use Rattle.search.proofs.Begins.{count-most, search-nowhere, search-run}
 use Rattle.search.proofs.search.Statement.{statement}
 use Rattle.search.proofs.search.Tie as tie
 
@@ -11,18 +11,21 @@ returns c =
     search-nowhere (c .before .slots-of .ensures .0) (omega arith)
 
 run-requires : tie.Need-run-requires
-run-requires c κs = let h = c .before .before .before .before .before .before .before .before .before .before .before .before .before .before .slots-of .ensures .1 in (omega arith, h)
+run-requires c κs =
+    let c10 = c .before .before .before .before .before .before .before .before .before .before in
+    let h = c10 .before .before .slots-of .ensures .1 in
+    (omega arith, h, count-most _ (c10 .groups-of .ensures))
 
 returns-2 : tie.Need-returns-2
 returns-2 c =
-    let c8 = c .before .before .before .before .before .before .before .before in
-    let c11 = c8 .before .before .before in
-    let c15 = c11 .before .before .before .before in
-    let n = c15 .before .before .slots-of in
-    let g = c15 .groups-of in
-    let s = c11 .before .initial in
-    let v = c11 .pack in
-    search-run (n .ensures .0) (let h = c15 .before .if1 .left in omega arith) (g .ensures) (s .ensures) (v .ensures) (c8 .store .ensures) (c .before .before .run .ensures)
+    let c7 = c .before .before .before .before .before .before .before in
+    let c10 = c7 .before .before .before in
+    let c13 = c10 .before .before .before in
+    let n = c13 .before .before .slots-of in
+    let g = c13 .groups-of in
+    let s = c10 .before .initial in
+    let v = c10 .pack in
+    search-run (n .ensures .0) (let h = c13 .before .if1 .left in omega arith) (g .ensures) (s .ensures) (v .ensures) (c7 .store .ensures) (c .before .before .run .ensures)
 
 pub search-spec : {M : Type 1} → statement M
 search-spec =

@@ -1,35 +1,34 @@
--- `search::work` meets its contract. The invariant: the record is carried on by the bytes below c. The measure is the bytes left.
+-- `search::work` meets its contract. The invariant: the record is carried on by the lowest bytes of the first k groups. The measure is the groups left.
 -- Assumes nothing.
 use Prim.Native.Nat.{_-_}
 use native.Mathlib.Omega.{arith}
 use borrow.Author.Needs.{needs}
 use Rattle.standing.specs.Stands.{arrays}
-use Rattle.search.specs.Turns.{Grouping}
-use Rattle.search.proofs.Works.{AtByte, byte-start, byte-step, byte-stop, byte-end, not-clear}
+use Rattle.search.proofs.Works.{AtGroup, group-start, group-step, group-stop, group-end, not-clear}
 use Rattle.search.proofs.work.Statement.{statement}
 use Rattle.search.proofs.work.Tie as tie
 
 abbrev Inv-loop : tie.InvT-loop
-Inv-loop table₀ q n slots group lowest masks rows lens sets ends s n₀ c₀ table n' c = AtByte (arrays masks rows lens sets ends) (Grouping masks group lowest) q n slots table₀ s c n' table
+Inv-loop table₀ q n slots lowest count masks rows lens sets ends s n₀ k₀ table n' k = AtGroup (arrays masks rows lens sets ends) lowest count q n slots table₀ s k n' table
 
 abbrev μ-loop : tie.MeasureT-loop
-μ-loop table₀ q n slots group lowest masks rows lens sets ends s n₀ c₀ table n' c = 256 - c
+μ-loop table₀ q n slots lowest count masks rows lens sets ends s n₀ k₀ table n' k = count - k
 
 loop-holds : tie.Need-loop-holds Inv-loop μ-loop
 loop-holds c =
-    byte-start (rw (c .before .load .ensures) at (c .unpack .ensures))
+    group-start (rw (c .before .load .ensures) at (c .unpack .ensures))
 
 returns : tie.Need-returns Inv-loop μ-loop
 returns c =
-    byte-stop (omega arith) (c .before .before .before .before .before .before .loop .inv) (c .before .before .before .turn .ensures) (not-clear (c .match .keys2))
+    group-stop (omega arith) (c .before .before .before .before .before .before .before .loop .inv) (c .before .before .before .carry .ensures) (not-clear (c .match .keys2))
 
 loop-again : tie.Need-loop-again Inv-loop μ-loop
 loop-again c =
-    byte-step (omega arith) (search needs) (c .before .before .before .before .before .before .before .before .loop .inv) (c .before .before .before .before .before .turn .ensures) (c .before .p .given .1)
+    group-step (omega arith) (c .before .before .before .before .before .before .before .before .before .loop .inv) (c .before .before .before .before .before .carry .ensures) (search needs) (c .before .p .given .1)
 
 returns-2 : tie.Need-returns-2 Inv-loop μ-loop
 returns-2 c =
-    byte-end (omega arith) (c .before .loop .inv)
+    group-end (omega arith) (c .before .loop .inv)
 
 pub work-spec : {M : Type 1} → statement M
 work-spec =

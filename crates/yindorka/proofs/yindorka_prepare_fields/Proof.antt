@@ -5,7 +5,7 @@ use Rattle.yindorka.proofs.yindorka_prepare_fields.Statement.{statement
 use Rattle.yindorka.proofs.yindorka_prepare_fields.Tie as tie
 
 returns : tie.Need-returns
-returns c = let x = c .before .prepare in record { answer = x .result; prepared = x .ensures; means = rw (c .refusal-of .ensures) }
+returns c = let x = c .before .prepare in record { answer = x .result; prepared = x .ensures; means = c .counted-of .ensures }
 
 pub yindorka-prepare-fields-spec : {M : Type 1} → statement M
 yindorka-prepare-fields-spec = tie.close (tie.spec (λ c κs. search needs) (λ c κs. search needs) returns)

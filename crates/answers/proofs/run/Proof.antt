@@ -1,19 +1,19 @@
--- `check_patterns::run` meets its contract. The invariant: nothing waits. The measure is the turns left.
+-- `answers::run` meets its contract. The invariant: nothing waits. The measure is the turns left.
 -- Assumes nothing.
-use mathlib.Core.Path.{_≡_, ap}
+use mathlib.Core.Path.{_≡_, refl}
 use borrow.Author.Needs.{needs}
 use Rattle.lines.proofs.Exchanging.{nothing-waits, at-the-end}
-use Rattle.check_patterns.proofs.run.Statement.{statement}
-use Rattle.check_patterns.proofs.run.Tie as tie
+use Rattle.answers.proofs.run.Statement.{statement}
+use Rattle.answers.proofs.run.Tie as tie
 
 abbrev Inv-loop : tie.InvT-loop
-Inv-loop chunk₀ line₀ out₀ table₀ witness₀ s₀ turns₀ chunk line out table witness s turns = s .used ≡ 0
+Inv-loop chunk₀ line₀ out₀ table₀ witness₀ asked s₀ turns₀ chunk line out table witness s turns = s .used ≡ 0
 
 abbrev μ-loop : tie.MeasureT-loop
-μ-loop chunk₀ line₀ out₀ table₀ witness₀ s₀ turns₀ chunk line out table witness s turns = turns
+μ-loop chunk₀ line₀ out₀ table₀ witness₀ asked s₀ turns₀ chunk line out table witness s turns = turns
 
 loop-holds : tie.Need-loop-holds Inv-loop μ-loop
-loop-holds c = ap (λ x. x .used) (c .start .ensures)
+loop-holds c = refl
 
 loop-again : tie.Need-loop-again Inv-loop μ-loop
 loop-again c = nothing-waits (c .exchange .ensures)
@@ -27,7 +27,6 @@ run-spec =
     (tie.spec
     Inv-loop
     μ-loop
-    (λ c κs. search needs)
     loop-holds
     (λ c κs. search needs)
     (λ c κs. search needs)

@@ -1,0 +1,2 @@
+-- What is shown of a pattern.
+pub mod Shows
