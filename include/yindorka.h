@@ -1,4 +1,4 @@
-/* Yindorka for C: both readings of a line, the fields of the greedy one, and the checker.
+/* Yindorka for C: both readings of a line, the fields of the greedy one, the byte groups of a pattern, and the checker.
  *
  * Every function is proved to meet the promise beside it, for every content of every buffer (crates/yindorka/src/lib.rt has the contracts).
  * No function allocates, keeps a state between calls or writes anywhere but to the buffers named; so each may be called from any number of threads,
@@ -10,7 +10,8 @@
  *
  * The stack is not proved. It was measured over some 25,000 patterns, the deepest and the heaviest among them, for 1.0.0, and for each version since over those that
  * took the most; tests/embedding holds it:
- * yindorka_check takes at most 180 KB, yindorka_prepare 180 KB, yindorka_cut 2 KB, yindorka_prepare_fields 180 KB, yindorka_cut_fields 20 KB. The size of a line or a
+ * yindorka_check takes at most 180 KB, yindorka_prepare 180 KB, yindorka_cut 2 KB, yindorka_prepare_fields 180 KB, yindorka_cut_fields 20 KB, yindorka_groups 180 KB,
+ * yindorka_readable 180 KB. The size of a line or a
  * table changes nothing in this.
  */
 #ifndef YINDORKA_H
@@ -20,8 +21,8 @@
 #include <stdint.h>
 
 /* The version of this header: 10,000 times the first number, 100 times the second, and the third. */
-#define YINDORKA_VERSION "1.2.0"
-#define YINDORKA_VERSION_NUMBER 10200
+#define YINDORKA_VERSION "1.3.0"
+#define YINDORKA_VERSION_NUMBER 10300
 
 #ifdef __cplusplus
 extern "C" {
@@ -77,6 +78,22 @@ typedef struct {
     size_t count;
 } yindorka_fields_refusal;
 
+/* The byte groups of an accepted pattern: two bytes share a group exactly if each leaf's set holds both or neither, so that no line is cut otherwise where one stands for the
+ * other. group has the number of each byte's group. Groups are numbered by their lowest byte, upwards from 0: a pattern's numbers are the same in every version from 1.3.0 on.
+ * lowest has the lowest byte of each group, with zeros after the last; count is how many there are, at most 256. */
+typedef struct {
+    uint8_t group[256];
+    uint8_t lowest[256];
+    size_t count;
+} yindorka_group_table;
+
+/* number 0: accepted, with count groups. Else the pattern is refused with that number (1 to 8) at that place, and count is 0. */
+typedef struct {
+    size_t number;
+    size_t place;
+    size_t count;
+} yindorka_groups_refusal;
+
 /* found 1: the greedy span. Bit f - 1 of known: field f has a start; bit f + 7: it has an end. Without either it is absent. found 0: no part of the line matches. */
 typedef struct {
     size_t found;
@@ -106,6 +123,14 @@ yindorka_spanned yindorka_cut_fields(const uint8_t *line, size_t line_length, co
                                      const uint64_t sets[65], const uint8_t ends[65], const uint64_t next[257], const uint8_t hows[10], const uint16_t marks[4225],
                                      size_t places[16]);
 
+/* The groups as arrays; yindorka_read_groups below is easier to call. */
+yindorka_groups_refusal yindorka_groups(const uint8_t *pattern, size_t pattern_length, uint8_t group[256], uint8_t lowest[256]);
+
+/* Replaces each byte of the line that is not printable ASCII (32 to 126) by a printable one of its group, where there is one: the first of 48 to 126, then of 33 to 47, then
+ * the space. Both readings cut the line at the same places as before; so a witness with bytes that nobody can type is shown by one that is cut differently at the same
+ * places. A refused pattern leaves the line as it is. */
+yindorka_refusal yindorka_readable(const uint8_t *pattern, size_t pattern_length, uint8_t *line, size_t line_length);
+
 /* Decides whether a greedy and a POSIX reading of the pattern can ever cut a line differently.
  * Writes: the table, whose slots are its length divided by 64, at most 65,535: the records found, from its start on, the rest kept; the witness buffer, only for
  * kind 1: the first line that is cut differently, at its start, the rest kept. A refusal 1 to 8 keeps both; 10: more records are needed than there are slots, all
@@ -123,6 +148,16 @@ static inline yindorka_refusal yindorka_read(const uint8_t *pattern, size_t leng
 static inline int yindorka_spans(const uint8_t *line, size_t length, const yindorka_tables *t, size_t spans[3])
 {
     return (int)yindorka_cut(line, length, t->masks, t->rows, t->lens, t->sets, t->ends, t->next, t->hows, spans);
+}
+
+/* The byte groups of a pattern, for a screen that colours bytes by group. A refused pattern leaves the table as it is. */
+static inline yindorka_groups_refusal yindorka_read_groups(const uint8_t *pattern, size_t length, yindorka_group_table *t)
+{
+    yindorka_groups_refusal refusal = yindorka_groups(pattern, length, t->group, t->lowest);
+
+    if (refusal.number == 0)
+        t->count = refusal.count;
+    return refusal;
 }
 
 /* Fields. Field 1 is the pattern's first opening (, field 2 the second, and so on; every ( counts but \( and one in a class. A field is what its bracket took in the last

@@ -1,5 +1,7 @@
 // The library as C calls it, for tests/requests. Standard input has a call a line, patterns and lines in hex ('-' if one is empty).
 // 'fields PATTERN LINE' prints 'refused NUMBER PLACE', 'none', or 'span START END' and for each field its start and end or 'absent'.
+// 'groups PATTERN' prints 'refused NUMBER PLACE', or 'groups' and the number of each byte's group, then after ' : ' the lowest byte of each group.
+// 'readable PATTERN LINE' prints 'refused NUMBER PLACE' or 'accepted', then after ' : ' the line in hex.
 // 'check PATTERN TABLE WITNESS' calls the checker, with how many bytes of table and witness buffer are lent. Before the call every byte of the table is aa and every byte of the witness buffer bb, and guard bytes stand before
 // and behind both. Prints for each call, on one line, the result as the checker program has it, then the table and the witness buffer in hex ('-' if one is empty),
 // each after ' : ', and ' : guard bytes changed' if some are.
@@ -131,6 +133,62 @@ static void print_fields(const uint8_t *pattern, size_t pattern_length, const ui
     putchar('\n');
 }
 
+// Bytes of lowest after the last group that are not 0 are printed as well, and arrays that a refused pattern does not leave as they were.
+static void print_groups(const uint8_t *pattern, size_t pattern_length)
+{
+    yindorka_group_table t;
+    yindorka_groups_refusal refusal;
+
+    memset(&t, TABLE_BYTE, sizeof t);
+    refusal = yindorka_read_groups(pattern, pattern_length, &t);
+    if (refusal.number) {
+        printf("refused %zu %zu", refusal.number, refusal.place);
+        for (size_t b = 0; b < 256; b++)
+            if (t.group[b] != TABLE_BYTE || t.lowest[b] != TABLE_BYTE)
+                printf(" and byte %zu changed", b);
+        putchar('\n');
+        return;
+    }
+    printf("groups");
+    for (size_t b = 0; b < 256; b++)
+        printf(" %u", t.group[b]);
+    printf(" :");
+    for (size_t g = 0; g < 256; g++)
+        if (g < t.count || t.lowest[g])
+            printf(" %u", t.lowest[g]);
+    putchar('\n');
+}
+
+static int groups(const char *pattern_hex)
+{
+    uint8_t *pattern = room(strlen(pattern_hex) + 1);
+
+    print_groups(pattern, read_hex(pattern_hex, pattern));
+    free(pattern);
+    return 1;
+}
+
+static int readable(const char *pattern_hex, const char *line_hex)
+{
+    uint8_t *pattern = room(strlen(pattern_hex) + 1), *bytes = room(strlen(line_hex) + 1);
+    size_t length = read_hex(pattern_hex, pattern), line_length = read_hex(line_hex, bytes);
+    buffer line = lend(line_length, 0);
+    yindorka_refusal refusal;
+
+    memcpy(line.at, bytes, line_length);
+    refusal = yindorka_readable(pattern, length, line.at, line.length);
+    if (refusal.number)
+        printf("refused %zu %zu", refusal.number, refusal.place);
+    else
+        printf("accepted");
+    print_buffer(line);
+    puts(guards_kept(line) ? "" : " : guard bytes changed");
+    give_back(line);
+    free(pattern);
+    free(bytes);
+    return 1;
+}
+
 static int check(char *pattern_hex, const char *table_length, const char *witness_length)
 {
     uint8_t *pattern = room(strlen(pattern_hex) + 1);
@@ -155,6 +213,19 @@ static int fields(char *pattern_hex, char *line_hex)
     return 1;
 }
 
+static int call_named(const char *what, char *first, char *second, const char *third)
+{
+    if (strcmp(what, "groups") == 0)
+        return groups(first);
+    if (!second)
+        return 0;
+    if (strcmp(what, "fields") == 0)
+        return fields(first, second);
+    if (strcmp(what, "readable") == 0)
+        return readable(first, second);
+    return third && check(first, second, third);
+}
+
 int main(void)
 {
     char *line = NULL;
@@ -163,7 +234,7 @@ int main(void)
     while (getline(&line, &size, stdin) >= 0) {
         char *what = strtok(line, " \n"), *first = strtok(NULL, " \n"), *second = strtok(NULL, " \n"), *third = strtok(NULL, " \n");
 
-        if (!second || (strcmp(what, "fields") == 0 ? !fields(first, second) : !third || !check(first, second, third)))
+        if (!first || !call_named(what, first, second, third))
             return 2;
     }
     free(line);

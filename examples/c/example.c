@@ -9,16 +9,25 @@ static uint8_t table[65536];
 static uint8_t witness[1024];
 static yindorka_tables tables;
 
-static void show_verdict(yindorka_outcome o)
+/* The first line cut differently, and the same in printable bytes of the same groups, where there are any. */
+static void show_witness(const uint8_t *pattern, size_t length, size_t witness_length)
+{
+    for (size_t i = 0; i < witness_length; i++) {
+        printf("%02x", witness[i]);
+    }
+    yindorka_readable(pattern, length, witness, witness_length);
+    printf(", in readable bytes: ");
+    fwrite(witness, 1, witness_length, stdout);
+    printf("\n");
+}
+
+static void show_verdict(const uint8_t *pattern, size_t length, yindorka_outcome o)
 {
     if (o.kind == 0) {
         printf("alike, %zu records\n", o.first);
     } else if (o.kind == 1) {
         printf("unlike, %zu records, first line cut differently: ", o.first);
-        for (size_t i = 0; i < o.second; i++) {
-            printf("%02x", witness[i]);
-        }
-        printf("\n");
+        show_witness(pattern, length, o.second);
     } else {
         printf("refused with %zu at %zu\n", o.first, o.second);
     }
@@ -46,7 +55,7 @@ int main(int n, char **words)
     }
     const uint8_t *pattern = (const uint8_t *)words[1];
     size_t length = strlen(words[1]);
-    show_verdict(yindorka_check(pattern, length, table, sizeof table, witness, sizeof witness));
+    show_verdict(pattern, length, yindorka_check(pattern, length, table, sizeof table, witness, sizeof witness));
     if (yindorka_read(pattern, length, &tables).number) {
         return 1;
     }

@@ -6,7 +6,7 @@ use std::os::unix::ffi::OsStringExt;
 use std::process::exit;
 
 // The library's version, structs and functions, as include/yindorka.h has them.
-const VERSION: u32 = 10200;
+const VERSION: u32 = 10300;
 
 #[repr(C)]
 struct Refusal {
@@ -46,6 +46,7 @@ extern "C" {
         hows: *const u8,
         spans: *mut usize,
     ) -> usize;
+    fn yindorka_readable(pattern: *const u8, length: usize, line: *mut u8, line_length: usize) -> Refusal;
     fn yindorka_check(
         pattern: *const u8,
         length: usize,
@@ -69,7 +70,7 @@ struct Pattern {
 
 enum Verdict {
     Alike { count: usize },
-    Unlike { count: usize, witness: Vec<u8> },
+    Unlike { count: usize, witness: Vec<u8>, readable: Vec<u8> },
     Refused { number: usize, place: usize },
 }
 
@@ -127,6 +128,14 @@ impl Pattern {
     }
 }
 
+// The line in printable bytes of the same groups, where there are any.
+fn readable(text: &[u8], line: &[u8]) -> Vec<u8> {
+    let mut shown = line.to_vec();
+    // Safe as above.
+    unsafe { yindorka_readable(text.as_ptr(), text.len(), shown.as_mut_ptr(), shown.len()) };
+    shown
+}
+
 fn check(text: &[u8]) -> Verdict {
     let mut table = vec![0u8; 65536];
     let mut witness = vec![0u8; 1024];
@@ -143,10 +152,14 @@ fn check(text: &[u8]) -> Verdict {
     };
     match o.kind {
         0 => Verdict::Alike { count: o.first },
-        1 => Verdict::Unlike {
-            count: o.first,
-            witness: witness[..o.second].to_vec(),
-        },
+        1 => {
+            witness.truncate(o.second);
+            Verdict::Unlike {
+                count: o.first,
+                readable: readable(text, &witness),
+                witness,
+            }
+        }
         _ => Verdict::Refused {
             number: o.first,
             place: o.second,
@@ -157,9 +170,11 @@ fn check(text: &[u8]) -> Verdict {
 fn show_verdict(out: &mut impl Write, verdict: Verdict) -> io::Result<()> {
     match verdict {
         Verdict::Alike { count } => writeln!(out, "alike, {count} records"),
-        Verdict::Unlike { count, witness } => {
+        Verdict::Unlike { count, witness, readable } => {
             let hex: String = witness.iter().map(|b| format!("{b:02x}")).collect();
-            writeln!(out, "unlike, {count} records, first line cut differently: {hex}")
+            write!(out, "unlike, {count} records, first line cut differently: {hex}, in readable bytes: ")?;
+            out.write_all(&readable)?;
+            writeln!(out)
         }
         Verdict::Refused { number, place } => writeln!(out, "refused with {number} at {place}"),
     }

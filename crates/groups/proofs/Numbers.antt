@@ -122,7 +122,7 @@ module _ (share : ℕ → ℕ → Bool) where
     pub number-lowest : (b : ℕ) → b < 256 → (numberOf share b < length (lowestBytes share)) × T (share (getD (lowestBytes share) (numberOf share b) 0) b)
     number-lowest b h = place-passes (λ c. share c b) (lowestBytes share) (has-lowest (suc b) b (omega arith) h)
 
-    -- BYTES HAVE ONE NUMBER EXACTLY IF THEY SHARE A GROUP.
+    -- Bytes have one number exactly if they share a group.
     pub numbers-share : (b c : ℕ) → b < 256 → c < 256 → (numberOf share b ≡ numberOf share c) ↔ T (share b c)
     numbers-share b c hb hc = (one, alike)
       where

@@ -136,7 +136,7 @@ module _ (r : Re) where
       go true = λ p h. refl
       go false = first-shares b printables
 
-  -- THE READABLE LINE HAS THE SPANS OF THE LINE: IT IS CUT DIFFERENTLY IF THE LINE IS, AT THE SAME PLACES.
+  -- The readable line has the spans of the line: it is cut differently if the line is, at the same places.
   pub readable-greedy : Numbered 0 r → (w : List ℕ) → greedy r (readable r w) ≡ greedy r w
   readable-greedy d = regroup-greedy (readableBy (shares r)) r d readable-shares
 

@@ -8,11 +8,11 @@ use Rattle.theory.specs.Pattern.{Re}
 use Rattle.theory.specs.Standing.{from}
 use Rattle.groups.specs.Numbers.{shares}
 
--- The printable bytes of ASCII, 32 to 126, in the order of preference: from the digits on, with the letters, which order lines are made of; then what is below them, and
--- last the space, which is hard to see: 48 to 126, 33 to 47, 32.
+-- The printable bytes of ASCII,
 abbrev pub isPrintable : ℕ → Bool
 isPrintable b = leb 32 b && leb b 126
 
+-- in the order of preference: from the digits on, with the letters, which order lines are made of; then what is below the digits, and last the space, which is hard to see.
 unfoldable pub printables : List ℕ
 printables = from 48 79 ++ (from 33 15 ++ (32 ∷ []))
 

@@ -255,8 +255,8 @@ pub fn groups(out: &mut [u8; 65536], n: usize, numbers: &[u8; 256]) -> usize
     ensures printed { λ r. ⌜ Printed 5383 (GroupsLine (now (numbers .entry))) (now (out .entry)) n (now (out .exit)) r ⌝ }
 {
     let word = put(out, n, b"groups");
-    let all = put_numbers(out, word, numbers);
-    put_byte(out, all, b'\n')
+    let fields = put_numbers(out, word, numbers);
+    put_byte(out, fields, b'\n')
 }
 
 // The bytes of a slice in hex, on a line.

@@ -34,7 +34,7 @@ rewrites-accepted {p} {w} {w′} {x} h a reads = go (h .answer) (h .right) (h .i
     go (Due.accepted t) r e = ap (λ z. z .1) e ∙ ap (λ b. readable (writeOut b) w) (unambiguous p t a r reads)
     go (Due.refused n q) r e = absurd (not-both p a n q reads r)
 
--- THE READABLE LINE OF A LINE THAT IS CUT DIFFERENTLY IS CUT DIFFERENTLY, AT THE SAME PLACES: for every pattern and every line.
+-- For every pattern and every line the readable line has both spans of the line.
 module _ (a : Alternation) (w : List ℕ) where
   pub shown-greedy : greedy (writeOut a) (readable (writeOut a) w) ≡ greedy (writeOut a) w
   shown-greedy = readable-greedy (writeOut a) (writeOut-numbered a) w
@@ -42,5 +42,6 @@ module _ (a : Alternation) (w : List ℕ) where
   pub shown-posix : posix (writeOut a) (readable (writeOut a) w) ≡ posix (writeOut a) w
   shown-posix = readable-posix (writeOut a) (writeOut-numbered a) w
 
+  -- THE READABLE LINE OF A LINE THAT IS CUT DIFFERENTLY IS CUT DIFFERENTLY, AT THE SAME PLACES.
   pub shown-cut : CutDifferently (writeOut a) w → CutDifferently (writeOut a) (readable (writeOut a) w)
   shown-cut = readable-cut (writeOut a) (writeOut-numbered a) w
