@@ -1,7 +1,6 @@
 -- Laws of the lists that groups are read off: two tests that agree on a list, the place of the first number that passes, and numbers chosen upwards.
 -- Assumes nothing.
 use mathlib.Core.Path.{_≡_, refl, sym, ap, _∙_}
-use mathlib.Core.Logic.{_⊎_}
 use Prim.Native.Nat.{ℕ, zero, suc, _+_, _≤_, _<_}
 use mathlib.Core.Bool.{Bool, true, false, cond, true≢false}
 use mathlib.Core.List.{List, [], _∷_, _++_, map}
@@ -94,6 +93,15 @@ place-member [] k h = absurd (omega arith)
 place-member (c ∷ l) zero h = or-left (eqb c c) (member c l) (eqb-refl c)
 place-member (c ∷ l) (suc k) h = or-right (eqb (getD l k 0) c) (member (getD l k 0) l) (place-member l k (omega arith))
 
+-- Numbers that stand upwards, and one below them that comes first or is left out.
+with-first : (c : Bool) (n : ℕ) (rest : List ℕ) → ((j k : ℕ) → j < k → k < length rest → getD rest j 0 < getD rest k 0) → ((k : ℕ) → k < length rest → n < getD rest k 0)
+    → (j k : ℕ) → j < k → k < length (cond c (n ∷ rest) rest) → getD (cond c (n ∷ rest) rest) j 0 < getD (cond c (n ∷ rest) rest) k 0
+with-first true n rest below above zero zero l h = absurd (omega arith)
+with-first true n rest below above zero (suc k) l h = above k (omega arith)
+with-first true n rest below above (suc j) zero l h = absurd (omega arith)
+with-first true n rest below above (suc j) (suc k) l h = below j k (omega arith) (omega arith)
+with-first false n rest below above j k l h = below j k l h
+
 -- Numbers chosen from those from n on stand upwards.
 module _ (f : ℕ → Bool) where
   chosen-from : (n d k : ℕ) → k < length (filter f (from n d)) → n ≤ getD (filter f (from n d)) k 0
@@ -101,18 +109,4 @@ module _ (f : ℕ → Bool) where
 
   pub chosen-upwards : (n d j k : ℕ) → j < k → k < length (filter f (from n d)) → getD (filter f (from n d)) j 0 < getD (filter f (from n d)) k 0
   chosen-upwards n zero j k l h = absurd (omega arith)
-  chosen-upwards n (suc d) j k l h = go (f n) j k l (chosen-upwards (suc n) d) (chosen-from (suc n) d) h
-    where
-      Rest : List ℕ
-      Rest = filter f (from (suc n) d)
-
-      go : (c : Bool) (j k : ℕ) → j < k
-          → ((j k : ℕ) → j < k → k < length (filter f (from (suc n) d)) → getD (filter f (from (suc n) d)) j 0 < getD (filter f (from (suc n) d)) k 0)
-          → ((k : ℕ) → k < length (filter f (from (suc n) d)) → suc n ≤ getD (filter f (from (suc n) d)) k 0)
-          → k < length (cond c (n ∷ filter f (from (suc n) d)) (filter f (from (suc n) d)))
-          → getD (cond c (n ∷ filter f (from (suc n) d)) (filter f (from (suc n) d))) j 0 < getD (cond c (n ∷ filter f (from (suc n) d)) (filter f (from (suc n) d))) k 0
-      go true zero zero l below above h = absurd (omega arith)
-      go true zero (suc k) l below above h = omega (arith, above k (omega arith))
-      go true (suc j) zero l below above h = absurd (omega arith)
-      go true (suc j) (suc k) l below above h = below j k (omega arith) (omega arith)
-      go false j k l below above h = below j k l h
+  chosen-upwards n (suc d) j k l h = with-first (f n) n (filter f (from (suc n) d)) (chosen-upwards (suc n) d) (chosen-from (suc n) d) j k l h

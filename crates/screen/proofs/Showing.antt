@@ -6,7 +6,6 @@ use mathlib.Core.List.{List, map}
 use native.Mathlib.Omega.{arith}
 use lib.ListN.{getD}
 use Rattle.grammar.specs.Grammar.{Alternation}
-use Rattle.grammar.specs.Refusals.{Right}
 use Rattle.grammar.specs.Refusals as Due
 use Rattle.grammar.specs.WriteOut.{writeOut}
 use Rattle.arrays.specs.Decoded.{decode}
@@ -22,7 +21,8 @@ use Rattle.reader.specs.declared.Reading.{Reading}
 use Rattle.reader.specs.Reading.{ReadRight}
 use Rattle.reader.proofs.Laws.{accepted-reads, accepted-masks, accepted-holds, refused-fault}
 use Rattle.screen.specs.declared.Counted.{Counted}
-use Rattle.screen.specs.Shows.{Told, told, due, Shows, Rewrites}
+use Rattle.screen.specs.Shows.{told, Shows, Rewrites}
+use Rattle.screen.proofs.Laws.{shows-accepted, shows-refused}
 
 module _ {p : List ℕ} {x : Reading} (h : ReadRight p x) where
   pub shown-refused : {group lowest : List ℕ} {n q : ℕ} → x .answer ≡ Refused n q → Shows p group lowest (record { answer = x .answer; count = 0 }) group lowest
@@ -38,24 +38,14 @@ module _ {p : List ℕ} {x : Reading} (h : ReadRight p x) where
       record { answer = Due.accepted t; right = reads; is = ap₂ told e (f ∙ all ∙ ap groupsOf written) }
 
 module _ {p group lowest group′ lowest′ : List ℕ} {x : Counted} (shown : Shows p group lowest x group′ lowest′) where
-  abbrev Now : Due.Answer → Type 0
-  Now a = _≡_ {A = Told} (record { answer = x .answer; count = x .count; group = group′; lowest = lowest′ }) (due a group lowest)
-
   pub rewritten-refused : {w : List ℕ} {n q : ℕ} → x .answer ≡ Refused n q → Rewrites p w (x .answer) w
-  rewritten-refused {w} {n} {q} e = go (shown .answer) (shown .right) (shown .is)
-    where
-      go : (a : Due.Answer) → Right p a → Now a → Rewrites p w (x .answer) w
-      go (Due.accepted t) r f = absurd (let f′ : x .answer ≡ Accepted = ap (λ y. y .answer) f in let z : _≡_ {A = ℕ} 0 1 = cc in omega arith)
-      go (Due.refused m k) r f = record { answer = Due.refused m k; right = r; is = ap (λ y. (y .answer, w)) f }
+  rewritten-refused {w} {n} {q} e = record { answer = Due.refused n q; right = shows-refused shown e; is = ap (λ y. (y, w)) e }
 
   pub rewritten : {w w′ : List ℕ} → x .answer ≡ Accepted → ((k : ℕ) → getD w k 0 < 256) → w′ ≡ map (readableBy (same group′)) w → Rewrites p w (x .answer) w′
-  rewritten {w} {w′} e bytes made = go (shown .answer) (shown .right) (shown .is)
-    where
-      go : (a : Due.Answer) → Right p a → Now a → Rewrites p w (x .answer) w′
-      go (Due.accepted t) r f =
-          record {
-            answer = Due.accepted t;
-            right = r;
-            is = ap₂ (λ y v. (y, v)) e (made ∙ ap (λ y. map (readableBy (same (y .group))) w) f ∙ line-readable (writeOut t) w bytes);
-          }
-      go (Due.refused m k) r f = absurd (let f′ : x .answer ≡ Refused m k = ap (λ y. y .answer) f in let z : _≡_ {A = ℕ} 0 1 = cc in omega arith)
+  rewritten {w} {w′} e bytes made =
+      let (t, reads, f) = shows-accepted shown e in
+      record {
+        answer = Due.accepted t;
+        right = reads;
+        is = ap₂ (λ y v. (y, v)) e (made ∙ ap (λ y. map (readableBy (same (y .group))) w) f ∙ line-readable (writeOut t) w bytes);
+      }
