@@ -150,7 +150,7 @@ static inline int yindorka_spans(const uint8_t *line, size_t length, const yindo
     return (int)yindorka_cut(line, length, t->masks, t->rows, t->lens, t->sets, t->ends, t->next, t->hows, spans);
 }
 
-/* The byte groups of a pattern, for a screen that colours bytes by group. A refused pattern leaves the table as it is. */
+/* The byte groups of a pattern, for the operators' screen, which colours bytes by group. A refused pattern leaves the table as it is. */
 static inline yindorka_groups_refusal yindorka_read_groups(const uint8_t *pattern, size_t length, yindorka_group_table *t)
 {
     yindorka_groups_refusal refusal = yindorka_groups(pattern, length, t->group, t->lowest);

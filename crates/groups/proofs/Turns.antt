@@ -74,14 +74,14 @@ module _ (share : ℕ → ℕ → Bool) (q : Equivalence share) (n : ℕ) (h : n
   new-number = ap (λ l. placeOf (λ c. share c n) l) split ∙ place-here (λ c. share c n) (lowestBelow share n) n _ none-below (q .self n)
 
 pub turn-begin : (masks : List ℕ) → GroupedTo masks 0 (replicate 256 0) (replicate 256 0) 0
-turn-begin masks = let e : 256 ≡ 256 - 0 = omega arith in record { numbered = ap (λ k. replicate k 0) e; lowly = ap (λ k. replicate k 0) e; counted = refl; most = omega arith }
+turn-begin masks = let e : 256 ≡ 256 - 0 = omega arith in record { numbered = ap (λ k. replicate k 0) e; leading = ap (λ k. replicate k 0) e; counted = refl; most = omega arith }
 
 pub turn-end : (masks group lowest : List ℕ) (count : ℕ) → GroupedTo masks 256 group lowest count → _≡_ {A = Groups} (record { group = group; lowest = lowest; count = count }) (groupsBy (same masks))
 unfolding lowestBytes numbers
 turn-end masks group lowest count t =
     let none : 256 - 256 ≡ 0 = omega arith in
     let all : group ≡ map (numberOf (same masks)) (from 0 256) = t .numbered ∙ ap (λ k. map (numberOf (same masks)) (from 0 256) ++ replicate k 0) none ∙ append-nil _ in
-    λ i. record { group = all i; lowest = (t .lowly ∙ ap (λ k. lowestBelow (same masks) 256 ++ replicate (256 - k) 0) (t .counted)) i; count = t .counted i }
+    λ i. record { group = all i; lowest = (t .leading ∙ ap (λ k. lowestBelow (same masks) 256 ++ replicate (256 - k) 0) (t .counted)) i; count = t .counted i }
 
 module _ (masks group lowest : List ℕ) (n count : ℕ) (h : n < 256) (t : GroupedTo masks n group lowest count) where
   numbered : (v : ℕ) → v ≡ numberOf (same masks) n → set group n v ≡ map (numberOf (same masks)) (from 0 (n + 1)) ++ replicate (256 - (n + 1)) 0
@@ -114,7 +114,7 @@ module _ (masks group lowest : List ℕ) (n count : ℕ) (h : n < 256) (t : Grou
     turn-old =
         record {
           numbered = numbered _ joins;
-          lowly = t .lowly ∙ ap (λ l. l ++ replicate (256 - count) 0) unmoved;
+          leading = t .leading ∙ ap (λ l. l ++ replicate (256 - count) 0) unmoved;
           counted = t .counted ∙ ap length unmoved;
           most = omega (arith, t .most);
         }
@@ -134,8 +134,8 @@ module _ (masks group lowest : List ℕ) (n count : ℕ) (h : n < 256) (t : Grou
     turn-new =
         record {
           numbered = numbered count (t .counted ∙ sym (new-number (same masks) (same-equivalence masks) n h is-lowest));
-          lowly =
-              ap (λ l. set l count n) (t .lowly)
+          leading =
+              ap (λ l. set l count n) (t .leading)
               ∙ fill (lowestBelow (same masks) n) count n (sym (t .counted)) (omega (arith, t .most))
               ∙ ap (λ l. l ++ replicate (256 - (count + 1)) 0) longer;
           counted = (let s : length (lowestBelow (same masks) n ++ (n ∷ [])) ≡ length (lowestBelow (same masks) n) + 1 = length-append (lowestBelow (same masks) n) (n ∷ []) in omega (arith, t .counted, s)) ∙ ap length longer;

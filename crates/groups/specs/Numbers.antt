@@ -13,7 +13,7 @@ use Rattle.groups.specs.declared.Groups.{Groups}
 abbrev pub shares : Re → ℕ → ℕ → Bool
 shares r b c = not (any (λ p. xor (has r p b) (has r p c)) (from 0 (count r)))
 
--- The place in a list of the first number that passes a test.
+-- The place in a list of the first number that passes a test; the list's length if none does.
 abbrev pub placeOf : (ℕ → Bool) → List ℕ → ℕ
 placeOf f [] = 0
 placeOf f (b ∷ l) = cond (f b) 0 (suc (placeOf f l))

@@ -22,6 +22,6 @@ pub record FirstAlike (masks : List ℕ) (b r : ℕ) : Type 0 where
 -- What the arrays hold after the bytes below n: the numbers of their groups, and the lowest bytes among them.
 pub record GroupedTo (masks : List ℕ) (n : ℕ) (group lowest : List ℕ) (count : ℕ) : Type 0 where
   pub numbered : group ≡ map (numberOf (same masks)) (from 0 n) ++ replicate (256 - n) 0
-  pub lowly : lowest ≡ lowestBelow (same masks) n ++ replicate (256 - count) 0
+  pub leading : lowest ≡ lowestBelow (same masks) n ++ replicate (256 - count) 0
   pub counted : count ≡ length (lowestBelow (same masks) n)
   pub most : count ≤ n
