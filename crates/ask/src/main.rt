@@ -2,8 +2,8 @@
 // 'fields ': after it come a pattern line and order lines, as for `match_lines`; for each order line the greedy span with its fields, 'none' or a refusal (request 2). A
 // refused pattern prints its refusal only.
 // 'groups' on a line of its own: each further line is a pattern; for each the number of each byte's group (request 3), or its refusal.
-// Another word prints 'unknown'. Lines may have any length; input and output go by chunks, so memory stays the same. What is known is printed before more is read. A failed read or write ends the
-// program with a line on standard error.
+// Another word prints 'unknown'. Lines may have any length; input and output go by chunks, so memory stays the same. What is known is printed before more is read.
+// A failed read or write ends the program with a line on standard error.
 ghost use mathlib.Core.Path.{_≡_};
 use answers::Asked;
 use lines::KEPT;
