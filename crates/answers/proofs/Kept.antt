@@ -12,30 +12,54 @@ use lib.Seq.{take-all}
 use Rattle.grammar.specs.Refusals.{Fault, tooLong}
 use Rattle.grammar.specs.Refusals as Due
 use Rattle.grammar.proofs.Unique.{right-unique}
+use Rattle.grammar.proofs.Right.{not-both}
 use Rattle.verdict.specs.Checked.{Result, refused, Whole, whole, Checked, by-reader}
 use Rattle.verdict.proofs.Checked.{checked-one}
 use Rattle.checker.specs.declared.Verdict.{Verdict}
 use Rattle.checker.specs.declared.Verdict.the-variants.{Alike, Unlike, Refused}
 use Rattle.checker.specs.Verdicts.{resultOf, Checks}
+use Rattle.checker.specs.Looking.{LooksFor, unread, searched}
+use Rattle.search.specs.declared.Looking.{Looking}
 use Rattle.lines.specs.Lines.{kept}
 use Rattle.answers.specs.Line.{AnswerLine}
 use Rattle.answers.specs.declared.Asked.{Asked}
 use Rattle.answers.specs.declared.Asked.the-variants.{Spans, Groups}
 use Rattle.answers.specs.declared.Asked.the-variants as Asked
-use Rattle.answers.specs.Answer.{Judged, GroupsText, Listed, Answer}
+use Rattle.answers.specs.Answer.{Judged, Reported, GroupsText, Listed, Answer}
 
 too-long : (p : List ℕ) → 255 < length p → Fault p 1 255
 too-long p h = tooLong h refl refl
 
 -- Of a pattern above 255 bytes nothing else is looked at.
-long-judged : {spans : Bool} {x y : List ℕ × List ℕ} {p q w : List ℕ} → 255 < length p → 255 < length q → Judged spans x p w y → Judged spans x q w y
-long-judged {spans} {x} {y} {p} {q} {w} h k a = go spans (a .verdict) (a .line) (checked-one (a .checks) (by-reader (too-long p h)))
-  where
-    go : (s : Bool) (v : Verdict) → AnswerLine s p v (y .1) w → whole (resultOf v) (y .0) (y .1) ≡ whole (refused 1 255) (x .0) (x .1) → Judged s x q w y
-    go s (Alike n) l e = absurd (let z : _≡_ {A = ℕ} 0 1 = cc in omega arith)
-    go s (Unlike n m) l e = absurd (let z : _≡_ {A = ℕ} 0 1 = cc in omega arith)
-    go true (Refused n m) l e = record { verdict = Refused n m; checks = subst (Checked q (x .0) (x .1)) (sym e) (by-reader (too-long q k)); line = l }
-    go false (Refused n m) l e = record { verdict = Refused n m; checks = subst (Checked q (x .0) (x .1)) (sym e) (by-reader (too-long q k)); line = l }
+module _ (x y : List ℕ × List ℕ) {p q : List ℕ} (h : 255 < length p) (k : 255 < length q) where
+  long-line : (spans : Bool) (v : Verdict) (w : List ℕ) → Checks p (x .0) (x .1) v (y .0) (y .1) → AnswerLine spans p v (y .1) w → Checks q (x .0) (x .1) v (y .0) (y .1) × AnswerLine spans q v (y .1) w
+  long-line spans v w c l = go spans v l (checked-one c (by-reader (too-long p h)))
+    where
+      go : (s : Bool) (v : Verdict) → AnswerLine s p v (y .1) w → whole (resultOf v) (y .0) (y .1) ≡ whole (refused 1 255) (x .0) (x .1) → Checks q (x .0) (x .1) v (y .0) (y .1) × AnswerLine s q v (y .1) w
+      go s (Alike n) l e = absurd (let z : _≡_ {A = ℕ} 0 1 = cc in omega arith)
+      go s (Unlike n m) l e = absurd (let z : _≡_ {A = ℕ} 0 1 = cc in omega arith)
+      go true (Refused n m) l e = (subst (Checked q (x .0) (x .1)) (sym e) (by-reader (too-long q k)), l)
+      go false (Refused n m) l e = (subst (Checked q (x .0) (x .1)) (sym e) (by-reader (too-long q k)), l)
+
+  long-looking : {z : Looking} → LooksFor p (x .0) z → LooksFor q (x .0) z
+  long-looking (unread f) = unread (too-long q k)
+  long-looking (searched {a = a} reads y) = absurd (not-both p a 1 255 reads (too-long p h))
+
+  long-judged : {spans : Bool} {w : List ℕ} → Judged spans x p w y → Judged spans x q w y
+  long-judged {spans} {w} a = let (c, l) = long-line spans (a .verdict) w (a .checks) (a .line) in record { verdict = a .verdict; checks = c; line = l }
+
+  long-reported : {w : List ℕ} → Reported x p w y → Reported x q w y
+  long-reported a =
+      let (c, l) = long-line true (a .report .verdict) (a .rest) (a .reports .checks) (a .line) in
+      record {
+        report = a .report;
+        reports = record { checks = c; looks = long-looking (a .reports .looks) };
+        head = a .head;
+        looking = a .looking;
+        rest = a .rest;
+        line = l;
+        text = a .text;
+      }
 
 long-listed : {p q w : List ℕ} → 255 < length p → 255 < length q → Listed p w → Listed q w
 long-listed {p} {q} {w} h k a =
@@ -43,8 +67,9 @@ long-listed {p} {q} {w} h k a =
     record { answer = Due.refused 1 255; right = too-long q k; line = subst (λ z. GroupsText z w) one (a .line) }
 
 long-answer : (asked : Asked) (x y : List ℕ × List ℕ) (p q w : List ℕ) → 255 < length p → 255 < length q → Answer asked x p w y → Answer asked x q w y
-long-answer Asked.Verdict x y p q w h k a = long-judged h k a
-long-answer Spans x y p q w h k a = long-judged h k a
+long-answer Asked.Verdict x y p q w h k a = long-judged x y h k a
+long-answer Spans x y p q w h k a = long-judged x y h k a
+long-answer Asked.Looking x y p q w h k a = long-reported x y h k a
 long-answer Groups x y p q w h k a = (long-listed h k (a .0), a .1)
 
 -- WHAT IS KEPT IS ENOUGH: a pattern and its first 1,025 bytes have the same answer.

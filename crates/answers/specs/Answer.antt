@@ -3,18 +3,20 @@
 use mathlib.Core.Path.{_≡_}
 use mathlib.Core.Bool.{Bool, true, false}
 use Prim.Native.Nat.{ℕ}
-use mathlib.Core.List.{List}
+use mathlib.Core.List.{List, _++_}
 use Rattle.grammar.specs.WriteOut.{writeOut}
 use Rattle.grammar.specs.Refusals.{Right}
 use Rattle.grammar.specs.Refusals as Due
 use Rattle.groups.specs.Numbers.{groupsOf}
-use Rattle.printing.specs.Text.{Printed, RefusedLine, GroupsLine}
+use Rattle.printing.specs.Text.{Printed, RefusedLine, LookingText, GroupsLine}
 use Rattle.checker.specs.declared.Verdict.{Verdict}
+use Rattle.checker.specs.declared.Report.{Report}
 use Rattle.checker.specs.Verdicts.{Checks}
+use Rattle.checker.specs.Looking.{Reports}
 use Rattle.answers.specs.declared.Asked.{Asked}
-use Rattle.answers.specs.declared.Asked.the-variants.{Spans, Groups}
+use Rattle.answers.specs.declared.Asked.the-variants.{Spans, Looking, Groups}
 use Rattle.answers.specs.declared.Asked.the-variants as Asked
-use Rattle.answers.specs.Line.{AnswerLine}
+use Rattle.answers.specs.Line.{SpansLineOf, AnswerLine}
 
 -- The text w is the line of the verdict that paper 01 gives for the pattern p, with the spans of the witness and its readable form if they are asked for. Table and
 -- witness buffer, which held x, hold y then.
@@ -22,6 +24,16 @@ pub record Judged (spans : Bool) (x : List ℕ × List ℕ) (p w : List ℕ) (y 
   pub verdict : Verdict
   pub checks : Checks p (x .0) (x .1) verdict (y .0) (y .1)
   pub line : AnswerLine spans p verdict (y .1) w
+
+-- The text w says how much looking that took (request 4), and has the same line with the spans.
+pub record Reported (x : List ℕ × List ℕ) (p w : List ℕ) (y : List ℕ × List ℕ) : Type 0 where
+  pub report : Report
+  pub reports : Reports p (x .0) (x .1) report (y .0) (y .1)
+  pub head : List ℕ
+  pub looking : LookingText (report .looking .looks) (report .looking .comparisons) head
+  pub rest : List ℕ
+  pub line : SpansLineOf p (report .verdict) (y .1) rest
+  pub text : w ≡ head ++ rest
 
 -- The text w has the number of each byte's group (request 3), by the grammar's answer, or the refusal.
 abbrev pub GroupsText : Due.Answer → List ℕ → Type 0
@@ -37,6 +49,7 @@ pub record Listed (p w : List ℕ) : Type 0 where
 abbrev pub Answer : Asked → List ℕ × List ℕ → List ℕ → List ℕ → List ℕ × List ℕ → Type 0
 Answer Asked.Verdict x p w y = Judged false x p w y
 Answer Spans x p w y = Judged true x p w y
+Answer Looking x p w y = Reported x p w y
 Answer Groups x p w y = Listed p w × (y ≡ x)
 
 -- The answer, of at most 5,383 bytes, is added to the n bytes that the buffer `old` held.

@@ -1,12 +1,12 @@
-// What the programs print for a pattern: the checker's verdict on it, also with both spans of the witness and its readable form, or its byte groups; and the answers
-// to the patterns of the input.
+// What the programs print for a pattern: the checker's verdict on it, also with both spans of the witness and its readable form, and how much looking it took; or the
+// pattern's byte groups; and the answers to the patterns of the input.
 ghost use Prim.Native.Nat.{_≤_};
 ghost use lib.ListN.{length, take};
 ghost use Rattle.lines.specs.Answers.{Served};
 ghost use Rattle.lines.specs.Exchange.{Finished};
 ghost use Rattle.printing.specs.Text.{room, Printed};
 ghost use Rattle.answers.specs.Line.{LineOf};
-ghost use Rattle.answers.specs.Answer.{Judged, Listed, Answer, Answered};
+ghost use Rattle.answers.specs.Answer.{Judged, Reported, Listed, Answer, Answered};
 ghost use Rattle.answers.specs.Cutting.{MadeReadable, Shown, Explained};
 use checker::Verdict;
 use lines::KEPT;
@@ -29,6 +29,8 @@ pub enum Asked {
     Verdict,
     // the same with both spans of the witness and its readable form
     Spans,
+    // this, and before it how much looking it took
+    Looking,
     // its byte groups
     Groups,
 }
@@ -115,6 +117,24 @@ fn judge(
     verdict(out, n, x, witness)
 }
 
+// Appends how much looking the check of a pattern took, and the verdict with the spans of the witness and its readable form.
+fn report(
+    out: &mut [u8; SIZE],
+    n: usize,
+    pattern: &[u8],
+    table: &mut [u8; TABLE],
+    witness: &mut [u8; WITNESS],
+) -> usize
+    ensures { λ r. ⌜ Printed 4292 (λ w. Reported (now (table .entry), now (witness .entry)) (now (pattern .entry)) w (now (table .exit), now (witness .exit)))
+        (now (out .entry)) n (now (out .exit)) r ⌝ }
+{
+    let x = checker::check_looking(pattern, table, witness);
+    let looking = x.looking;
+    let verdict = x.verdict;
+    let head = printing::looking(out, n, looking.looks, looking.comparisons);
+    explained(out, head, pattern, verdict, witness)
+}
+
 // Appends the number of each byte's group, or the pattern's refusal.
 fn list_groups(out: &mut [u8; SIZE], n: usize, pattern: &[u8]) -> usize
     ensures { λ r. ⌜ Printed 5383 (Listed (now (pattern .entry))) (now (out .entry)) n (now (out .exit)) r ⌝ }
@@ -144,6 +164,7 @@ pub fn answer(
     match asked {
         Asked::Verdict => judge(out, n, pattern, table, witness, false),
         Asked::Spans => judge(out, n, pattern, table, witness, true),
+        Asked::Looking => report(out, n, pattern, table, witness),
         Asked::Groups => list_groups(out, n, pattern),
     }
 }

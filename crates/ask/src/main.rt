@@ -2,6 +2,8 @@
 // 'fields ': after it come a pattern line and order lines, as for `match_lines`; for each order line the greedy span with its fields, 'none' or a refusal (request 2). A
 // refused pattern prints its refusal only.
 // 'groups' on a line of its own: each further line is a pattern; for each the number of each byte's group (request 3), or its refusal.
+// 'looking' on a line of its own: each further line is a pattern; for each how much looking its check took (request 4), and then what `explain_patterns` prints:
+// 'looks 8 comparisons 14 unlike 4 6162 greedy 0 1 posix 0 2 readable 6162'.
 // Another word prints 'unknown'. Lines may have any length; input and output go by chunks, so memory stays the same. What is known is printed before more is read.
 // A failed read or write ends the program with a line on standard error.
 ghost use mathlib.Core.Path.{_≡_};
@@ -66,26 +68,19 @@ fn serve_fields(
     lines::write_out(out, s)
 }
 
-// Lists the groups of the patterns on the lines after the first. Nothing waits then.
-fn serve_groups(
+// Answers what is asked for the patterns on the lines after the first. Nothing waits then.
+fn serve_patterns(
     chunk: &mut [u8; SIZE],
     line: &mut [u8; KEPT],
     out: &mut [u8; SIZE],
+    asked: Asked,
     first: State,
 ) -> State
     ensures { λ r. ⌜ r .used ≡ 0 ⌝ }
 {
     let mut table = [0u8; answers::TABLE];
     let mut witness = [0u8; answers::WITNESS];
-    answers::run(
-        chunk,
-        line,
-        out,
-        &mut table,
-        &mut witness,
-        Asked::Groups,
-        first,
-    )
+    answers::run(chunk, line, out, &mut table, &mut witness, asked, first)
 }
 
 // The first line's word decides.
@@ -96,7 +91,10 @@ fn serve(chunk: &mut [u8; SIZE], line: &mut [u8; KEPT], out: &mut [u8; SIZE], fi
         return serve_fields(chunk, line, out, first);
     }
     if first.n == 6 && lines::begins_with(lines::first_of(line, first.n), b"groups") {
-        return serve_groups(chunk, line, out, first);
+        return serve_patterns(chunk, line, out, Asked::Groups, first);
+    }
+    if first.n == 7 && lines::begins_with(lines::first_of(line, first.n), b"looking") {
+        return serve_patterns(chunk, line, out, Asked::Looking, first);
     }
     let mut s = first;
     s.used = printing::text(out, 0, b"unknown");

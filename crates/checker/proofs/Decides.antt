@@ -30,11 +30,15 @@ use Rattle.standing.specs.Stands.{Arrays, arrays, Lent}
 use Rattle.standing.proofs.Lent.{lent}
 use Rattle.search.specs.declared.Progress.{Progress}
 use Rattle.search.specs.declared.Progress.the-variants.{Clear, Witness, Full}
+use Rattle.search.specs.declared.Course.{Course}
 use Rattle.search.specs.Ends.{AllFound, WitnessFound, SlotsFull, Reached, Searched}
+use Rattle.search.specs.Looking.{Takes}
 use Rattle.checker.specs.declared.Verdict.{Verdict}
 use Rattle.checker.specs.declared.Verdict.the-variants.{Alike, Refused}
 use Rattle.checker.specs.Origins.{Line, Lined}
-use Rattle.checker.specs.Verdicts.{resultOf, Checks}
+use Rattle.checker.specs.declared.Report.{Report}
+use Rattle.checker.specs.Verdicts.{resultOf}
+use Rattle.checker.specs.Looking.{LooksFor, unread, Reports}
 use Rattle.checker.specs.Steps.{Sound, Handed, given, too-long, Decides}
 use Rattle.checker.proofs.Origins.{line-one, record-line}
 
@@ -76,39 +80,44 @@ module _ {p : List ℕ} {a : Alternation} (reads : Reads p a) (d : Numbered 0 (w
       no-room reads (first d x) (few d x) (subst (λ u. length v < length u) e h) refl (x .holds .table) refl
 
 -- Of an accepted pattern's arrays, and what the search found with them.
-module _ {x : Pattern} {tables : Tables} (sound : Sound x) (right : Right (decode x) tables) {t : List ℕ} {p : Progress} {t′ : List ℕ}
-    (searched : Searched (arrays (x .masks) (tables .rows) (tables .lens) (tables .sets) (tables .ends)) t p t′) where
+module _ {x : Pattern} {tables : Tables} (sound : Sound x) (right : Right (decode x) tables) {t : List ℕ} {c : Course} {t′ : List ℕ}
+    (searched : Searched (arrays (x .masks) (tables .rows) (tables .lens) (tables .sets) (tables .ends)) t c t′) where
   abbrev lent-arrays : Arrays
   lent-arrays = arrays (x .masks) (tables .rows) (tables .lens) (tables .sets) (tables .ends)
 
   lent-here : Lent (decode x) lent-arrays
   lent-here = lent x tables right (sound .numbered) (sound .most) (sound .holds)
 
-  ends : (q : Progress) → p ≡ q → {r : Re} → Lent r lent-arrays → Reached r t t′ (λ n. AllFound r t n t′) q
+  ends : (q : Progress) → c .progress ≡ q → {r : Re} → Lent r lent-arrays → Reached r t t′ (λ n. AllFound r t n t′) q
   ends q e {r} l = subst (Reached r t t′ (λ n. AllFound r t n t′)) e (searched .ends l)
 
   lent-as : {r : Re} → decode x ≡ r → Lent r lent-arrays
   lent-as f = subst (λ y. Lent y lent-arrays) f lent-here
 
-  pub decides-alike : {n : ℕ} {v : List ℕ} → p ≡ Clear n → Decides x t v (Alike n) t′ v
-  decides-alike {n} e = record { found = λ reads f. let l = lent-as f in found-alike reads (l .numbered) (ends (Clear n) e l) }
+  looks : Takes (decode x) (slots (length t)) (c .looking)
+  looks = searched .looking lent-here
 
-  pub decides-full : {v : List ℕ} → p ≡ Full → Decides x t v (Refused 10 0) t′ v
-  decides-full e = record { found = λ reads f. let l = lent-as f in found-full reads (l .numbered) (ends Full e l) }
+  pub decides-alike : {n : ℕ} {v : List ℕ} → c .progress ≡ Clear n → Decides x t v (record { verdict = Alike n; looking = c .looking }) t′ v
+  decides-alike {n} e = record { found = λ reads f. let l = lent-as f in found-alike reads (l .numbered) (ends (Clear n) e l); looks = looks }
 
-  pub decides-lined : {n : ℕ} → p ≡ Witness n → (0 < n) × Lined t′ (n - 1)
+  pub decides-full : {v : List ℕ} → c .progress ≡ Full → Decides x t v (record { verdict = Refused 10 0; looking = c .looking }) t′ v
+  decides-full e = record { found = λ reads f. let l = lent-as f in found-full reads (l .numbered) (ends Full e l); looks = looks }
+
+  pub decides-lined : {n : ℕ} → c .progress ≡ Witness n → (0 < n) × Lined t′ (n - 1)
   decides-lined {n} e = last-lined (lent-here .numbered) (ends (Witness n) e lent-here)
 
-  pub decides-witness : {n : ℕ} {y : Verdict} {v v′ : List ℕ} → p ≡ Witness n → Handed t′ n v y v′ → Decides x t v y t′ v′
-  decides-witness {n} e h = record { found = λ reads f. let l = lent-as f in found-witness reads (l .numbered) (ends (Witness n) e l) h }
+  pub decides-witness : {n : ℕ} {y : Verdict} {v v′ : List ℕ} → c .progress ≡ Witness n → Handed t′ n v y v′ → Decides x t v (record { verdict = y; looking = c .looking }) t′ v′
+  decides-witness {n} e h = record { found = λ reads f. let l = lent-as f in found-witness reads (l .numbered) (ends (Witness n) e l) h; looks = looks }
 
 -- Of the reader's answer.
 module _ {p : List ℕ} {r : Reading} (h : ReadRight p r) where
   pub accepted-sound : r .answer ≡ Accepted → Sound (r .pattern)
   accepted-sound e = record { numbered = accepted-leaves h e .0; most = accepted-leaves h e .1; holds = accepted-holds h e }
 
-  pub checks-accepted : {t v t′ v′ : List ℕ} (y : Verdict) → r .answer ≡ Accepted → Decides (r .pattern) t v y t′ v′ → Checks p t v y t′ v′
-  checks-accepted {t} {v} {t′} {v′} y e d = let (a, reads, f) = accepted-reads h e in checked-exactly p t v (resultOf y) t′ v′ .1 (d .found reads f)
+  pub reports-accepted : {t v t′ v′ : List ℕ} (y : Report) → r .answer ≡ Accepted → Decides (r .pattern) t v y t′ v′ → Reports p t v y t′ v′
+  reports-accepted {t} {v} {t′} {v′} y e d =
+      let (a, reads, f) = accepted-reads h e in
+      record { checks = checked-exactly p t v (resultOf (y .verdict)) t′ v′ .1 (d .found reads f); looks = LooksFor.searched reads (subst (λ r. Takes r (slots (length t)) (y .looking)) f (d .looks)) }
 
-  pub checks-refused : {t v : List ℕ} {n k : ℕ} → r .answer ≡ Answer.Refused n k → Checks p t v (Refused n k) t v
-  checks-refused e = by-reader (refused-fault h e)
+  pub reports-refused : {t v : List ℕ} {n k : ℕ} → r .answer ≡ Answer.Refused n k → Reports p t v (record { verdict = Refused n k; looking = record { looks = 0; comparisons = 0 } }) t v
+  reports-refused e = record { checks = by-reader (refused-fault h e); looks = unread (refused-fault h e) }

@@ -8,14 +8,16 @@ use Rattle.theory.specs.Pattern.{count, Numbered}
 use Rattle.grammar.specs.Grammar.{Alternation}
 use Rattle.grammar.specs.Limits.{Reads}
 use Rattle.grammar.specs.WriteOut.{writeOut}
-use Rattle.verdict.specs.Table.{onto}
+use Rattle.verdict.specs.Table.{slots, onto}
 use Rattle.verdict.specs.Code.Found.{Found}
 use Rattle.arrays.specs.declared.Pattern.{Pattern}
 use Rattle.arrays.specs.Decoded.{decode}
 use Rattle.arrays.specs.Finished.{HoldsPattern}
 use Rattle.checker.specs.Origins.{Line}
 use Rattle.checker.specs.Verdicts.{resultOf}
+use Rattle.search.specs.Looking.{Takes}
 use Rattle.checker.specs.declared.Verdict.{Verdict}
+use Rattle.checker.specs.declared.Report.{Report}
 use Rattle.checker.specs.declared.Verdict.the-variants.{Unlike, Refused}
 
 -- The arrays are those of a pattern with at most 64 leaves, numbered from 0.
@@ -30,5 +32,6 @@ pub data Handed (t : List ℕ) (n : ℕ) (v : List ℕ) : Verdict → List ℕ �
   too-long : {w : List ℕ} → Line t (n - 1) w → length v < length w → Handed t n v (Refused 11 0) v
 
 -- What is decided by the arrays of a pattern that is read.
-pub record Decides (x : Pattern) (t v : List ℕ) (y : Verdict) (t′ v′ : List ℕ) : Type 0 where
-  pub found : {p : List ℕ} {a : Alternation} → Reads p a → decode x ≡ writeOut a → Found p t v (resultOf y) t′ v′
+pub record Decides (x : Pattern) (t v : List ℕ) (y : Report) (t′ v′ : List ℕ) : Type 0 where
+  pub found : {p : List ℕ} {a : Alternation} → Reads p a → decode x ≡ writeOut a → Found p t v (resultOf (y .verdict)) t′ v′
+  pub looks : Takes (decode x) (slots (length t)) (y .looking)

@@ -1,10 +1,12 @@
 // The checker: from a pattern's bytes, a table and a witness buffer of any lengths to a verdict. Paper 01, "Standings and their records" and "Refusals".
 ghost use Prim.Native.Nat.{_-_, _<_};
 ghost use Rattle.checker.specs.Verdicts.{Checks};
+ghost use Rattle.checker.specs.Looking.{Reports};
 ghost use Rattle.checker.specs.Steps.{Sound, Handed, Decides};
 ghost use Rattle.checker.specs.Origins.{Lined, Length, Fits, Written};
 use arrays::Pattern;
 use reader::Answer;
+use search::Looking;
 use search::Progress;
 
 // The verdict, or the refusal with paper 01's number and place.
@@ -14,6 +16,12 @@ pub enum Verdict {
     // the number of records, and the length of the first line that is cut differently: it stands in the witness buffer
     Unlike { count: usize, length: usize },
     Refused { number: u8, place: usize },
+}
+
+// A verdict, and how much looking through the records it took.
+pub struct Report {
+    pub verdict: Verdict,
+    pub looking: Looking,
 }
 
 // How many bytes the line of record k has: one for each step back to record 0.
@@ -65,7 +73,7 @@ fn hand_over(n: usize, table: &[u8], witness: &mut [u8]) -> Verdict
 }
 
 // The verdict on the pattern whose arrays these are.
-fn decide(x: Pattern, table: &mut [u8], witness: &mut [u8]) -> Verdict
+fn decide(x: Pattern, table: &mut [u8], witness: &mut [u8]) -> Report
     requires { ⌜ Sound x ⌝ }
     ensures { λ r. ⌜ Decides x (now (table .entry)) (now (witness .entry)) r (now (table .exit)) (now (witness .exit)) ⌝ }
 {
@@ -75,20 +83,31 @@ fn decide(x: Pattern, table: &mut [u8], witness: &mut [u8]) -> Verdict
     let lens = tables.lens;
     let sets = tables.sets;
     let ends = tables.ends;
-    let found = search::search(table, &masks, &rows, &lens, &sets, &ends);
+    let course = search::search(table, &masks, &rows, &lens, &sets, &ends);
+    let looking = course.looking;
+    let found = course.progress;
     match found {
-        Progress::Clear(n) => Verdict::Alike { count: n },
-        Progress::Witness(n) => hand_over(n, table, witness),
-        Progress::Full => Verdict::Refused {
-            number: 10,
-            place: 0,
+        Progress::Clear(n) => Report {
+            verdict: Verdict::Alike { count: n },
+            looking,
+        },
+        Progress::Witness(n) => Report {
+            verdict: hand_over(n, table, witness),
+            looking,
+        },
+        Progress::Full => Report {
+            verdict: Verdict::Refused {
+                number: 10,
+                place: 0,
+            },
+            looking,
         },
     }
 }
 
-// Reads the pattern, and decides whether the two readings can ever differ. A refused pattern goes no further than the reader.
-pub fn check(pattern: &[u8], table: &mut [u8], witness: &mut [u8]) -> Verdict
-    ensures checked { λ r. ⌜ Checks (now (pattern .entry)) (now (table .entry)) (now (witness .entry)) r (now (table .exit)) (now (witness .exit)) ⌝ }
+// Reads the pattern, decides whether the two readings can ever differ, and says how much looking that took. A refused pattern goes no further than the reader.
+pub fn check_looking(pattern: &[u8], table: &mut [u8], witness: &mut [u8]) -> Report
+    ensures reported { λ r. ⌜ Reports (now (pattern .entry)) (now (table .entry)) (now (witness .entry)) r (now (table .exit)) (now (witness .exit)) ⌝ }
 {
     let reading = reader::read(pattern);
     let answer = reading.answer;
@@ -96,5 +115,18 @@ pub fn check(pattern: &[u8], table: &mut [u8], witness: &mut [u8]) -> Verdict
         let arrays = reading.pattern;
         return decide(arrays, table, witness);
     };
-    Verdict::Refused { number, place }
+    Report {
+        verdict: Verdict::Refused { number, place },
+        looking: Looking {
+            looks: 0,
+            comparisons: 0,
+        },
+    }
+}
+
+// The verdict alone.
+pub fn check(pattern: &[u8], table: &mut [u8], witness: &mut [u8]) -> Verdict
+    ensures checked { λ r. ⌜ Checks (now (pattern .entry)) (now (table .entry)) (now (witness .entry)) r (now (table .exit)) (now (witness .exit)) ⌝ }
+{
+    check_looking(pattern, table, witness).verdict
 }

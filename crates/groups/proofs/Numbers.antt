@@ -3,7 +3,7 @@
 use mathlib.Core.Path.{_≡_, refl, sym, ap, ap₂, _∙_, subst}
 use mathlib.Core.Logic.{_↔_}
 use Prim.Native.Nat.{ℕ, zero, suc, _+_, _-_, _≤_, _<_}
-use mathlib.Core.Bool.{Bool, true, false, not, xor, true≢false}
+use mathlib.Core.Bool.{Bool, true, false, not, xor, cond, true≢false}
 use mathlib.Core.List.{List, [], _∷_, _++_, map}
 use native.Mathlib.Omega.{arith}
 use native.Mathlib.Decide.{decLt}
@@ -13,7 +13,7 @@ use Rattle.theory.specs.Pattern.{Re, count, has, SameGroup}
 use Rattle.theory.specs.Standing.{member, from, filter}
 use Rattle.theory.specs.Code.Members.{any}
 use Rattle.theory.proofs.Tests.{T-true, true-T, not-true, same-test}
-use Rattle.theory.proofs.Members.{any-found, any-of, filter-of, filter-passes, member-from, length-from, map-from, filter-size}
+use Rattle.theory.proofs.Members.{any-found, any-of, filter-of, filter-passes, member-from, length-from, map-from, from-append, from-snoc, filter-append, filter-size}
 use Rattle.groups.specs.declared.Groups.{Groups}
 use Rattle.groups.specs.Numbers.{shares, placeOf, isLowest, lowestBelow, lowestBytes, numberOf, numbers, groupsBy, groupsOf}
 use Rattle.groups.proofs.Lists.{from-range, filter-in, Agree, any-agree, filter-agree, place-agree, map-agree, place-passes, member-place, place-member, chosen-upwards}
@@ -39,6 +39,25 @@ chosen-below share n b m = let i = from-range b 0 n (filter-in (isLowest share) 
 
 pub few-below : (share : ℕ → ℕ → Bool) (n : ℕ) → length (lowestBelow share n) ≤ n
 few-below share n = omega (arith, filter-size (isLowest share) (from 0 n), length-from 0 n)
+
+-- One byte more, which is the lowest of its group or not.
+pub next-byte : (n : ℕ) → from 0 (n + 1) ≡ from 0 n ++ (n ∷ [])
+next-byte n = let (h, i) : (n + 1 ≡ suc n) × (0 + n ≡ n) = omega arith in ap (from 0) h ∙ from-snoc 0 n ∙ ap (λ k. from 0 n ++ (k ∷ [])) i
+
+pub next-lowest : (share : ℕ → ℕ → Bool) (n : ℕ) → lowestBelow share (n + 1) ≡ lowestBelow share n ++ cond (isLowest share n) (n ∷ []) []
+next-lowest share n = ap (filter (isLowest share)) (next-byte n) ∙ filter-append (isLowest share) (from 0 n) (n ∷ [])
+
+-- The lowest bytes before one of them, this one, and those after it.
+module _ (share : ℕ → ℕ → Bool) (n : ℕ) (h : n < 256) (low : isLowest share n ≡ true) where
+  pub lowest-split : lowestBytes share ≡ lowestBelow share n ++ (n ∷ filter (isLowest share) (from (suc n) (255 - n)))
+  unfolding lowestBytes
+  lowest-split =
+      let (all, rest, on) : (256 ≡ n + (256 - n)) × (256 - n ≡ suc (255 - n)) × (0 + n ≡ n) = omega arith in
+      ap (lowestBelow share) all
+      ∙ ap (filter (isLowest share)) (from-append 0 n (256 - n))
+      ∙ filter-append (isLowest share) (from 0 n) (from (0 + n) (256 - n))
+      ∙ ap₂ (λ k d. lowestBelow share n ++ filter (isLowest share) (from k d)) on rest
+      ∙ ap (λ c. lowestBelow share n ++ cond c (n ∷ filter (isLowest share) (from (suc n) (255 - n))) (filter (isLowest share) (from (suc n) (255 - n)))) low
 
 -- The lowest bytes are bytes, and each byte that is the lowest of its group is among them.
 module _ (share : ℕ → ℕ → Bool) where

@@ -1,6 +1,6 @@
 -- One turn of the code: the groups of the bytes below n become those of the bytes below n + 1.
 -- Assumes nothing.
-use mathlib.Core.Path.{_≡_, refl, sym, ap, ap₂, _∙_}
+use mathlib.Core.Path.{_≡_, refl, sym, ap, _∙_}
 use mathlib.Core.List.{List, [], _∷_, _++_, map, append-nil, map-append}
 use mathlib.Core.Bool.{Bool, true, false, not, cond, true≢false}
 use Prim.Native.Nat.{ℕ, suc, _+_, _-_, _≤_, _<_}
@@ -8,15 +8,15 @@ use native.Mathlib.Omega.{arith}
 use lib.ListN.{length, getD, set, replicate, List·getD-append, length-map, length-append}
 use lib.Seq.{set-at, append-snoc}
 use lib.Dec.{T, eqb, eqb→eq, eqb-refl}
-use Rattle.theory.specs.Standing.{from, filter}
+use Rattle.theory.specs.Standing.{from}
 use Rattle.theory.specs.Code.Members.{any}
 use Rattle.theory.proofs.Tests.{T-true, true-T, not-true}
-use Rattle.theory.proofs.Members.{any-found, any-of, member-from, length-from, map-from, from-append, from-snoc, filter-append}
+use Rattle.theory.proofs.Members.{any-found, any-of, member-from, length-from, map-from}
 use Rattle.groups.specs.declared.Groups.{Groups}
 use Rattle.groups.specs.Numbers.{placeOf, isLowest, lowestBelow, lowestBytes, numberOf, numbers, groupsBy}
 use Rattle.groups.specs.Turns.{same, GroupedTo}
 use Rattle.groups.proofs.Lists.{from-range, filter-in, place-here, place-agree}
-use Rattle.groups.proofs.Numbers.{Equivalence, shared-alike}
+use Rattle.groups.proofs.Numbers.{Equivalence, next-byte, next-lowest, lowest-split, shared-alike}
 
 pub same-equivalence : (a : List ℕ) → Equivalence (same a)
 same-equivalence a =
@@ -35,15 +35,9 @@ fill p n v e h =
     let more : 256 - n ≡ suc (256 - (n + 1)) = omega arith in
     ap (λ k. set (p ++ replicate k 0) n v) more ∙ set-at p 0 (replicate (256 - (n + 1)) 0) v n e ∙ sym (append-snoc p v (replicate (256 - (n + 1)) 0))
 
--- One byte more.
-next-byte : (n : ℕ) → from 0 (n + 1) ≡ from 0 n ++ (n ∷ [])
-next-byte n = let (h, i) : (n + 1 ≡ suc n) × (0 + n ≡ n) = omega arith in ap (from 0) h ∙ from-snoc 0 n ∙ ap (λ k. from 0 n ++ (k ∷ [])) i
-
+-- One number more.
 next-number : (f : ℕ → ℕ) (n : ℕ) → map f (from 0 (n + 1)) ≡ map f (from 0 n) ++ (f n ∷ [])
 next-number f n = ap (map f) (next-byte n) ∙ map-append f (from 0 n) (n ∷ [])
-
-next-lowest : (share : ℕ → ℕ → Bool) (n : ℕ) → lowestBelow share (n + 1) ≡ lowestBelow share n ++ cond (isLowest share n) (n ∷ []) []
-next-lowest share n = ap (filter (isLowest share)) (next-byte n) ∙ filter-append (isLowest share) (from 0 n) (n ∷ [])
 
 numbers-size : (f : ℕ → ℕ) (n : ℕ) → length (map f (from 0 n)) ≡ n
 numbers-size f n = length-map (from 0 n) f ∙ length-from 0 n
@@ -60,18 +54,8 @@ module _ (share : ℕ → ℕ → Bool) (q : Equivalence share) (n : ℕ) (h : n
       apart true e t = true≢false (sym e)
       apart false e t = t
 
-  split : lowestBytes share ≡ lowestBelow share n ++ (n ∷ filter (isLowest share) (from (suc n) (255 - n)))
-  unfolding lowestBytes
-  split =
-      let (all, rest, on) : (256 ≡ n + (256 - n)) × (256 - n ≡ suc (255 - n)) × (0 + n ≡ n) = omega arith in
-      ap (lowestBelow share) all
-      ∙ ap (filter (isLowest share)) (from-append 0 n (256 - n))
-      ∙ filter-append (isLowest share) (from 0 n) (from (0 + n) (256 - n))
-      ∙ ap₂ (λ k d. lowestBelow share n ++ filter (isLowest share) (from k d)) on rest
-      ∙ ap (λ c. lowestBelow share n ++ cond c (n ∷ filter (isLowest share) (from (suc n) (255 - n))) (filter (isLowest share) (from (suc n) (255 - n)))) low
-
   new-number : numberOf share n ≡ length (lowestBelow share n)
-  new-number = ap (λ l. placeOf (λ c. share c n) l) split ∙ place-here (λ c. share c n) (lowestBelow share n) n _ none-below (q .self n)
+  new-number = ap (λ l. placeOf (λ c. share c n) l) (lowest-split share n h low) ∙ place-here (λ c. share c n) (lowestBelow share n) n _ none-below (q .self n)
 
 pub turn-begin : (masks : List ℕ) → GroupedTo masks 0 (replicate 256 0) (replicate 256 0) 0
 turn-begin masks = let e : 256 ≡ 256 - 0 = omega arith in record { numbered = ap (λ k. replicate k 0) e; leading = ap (λ k. replicate k 0) e; counted = refl; most = omega arith }

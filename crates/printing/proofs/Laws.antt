@@ -28,27 +28,26 @@ take-cut k m x y h = go (leb (length x) k) (leb→le (length x) k) (nleb→lt (l
         take-append-le m (take k x) y (omega arith) ∙ take-take m k x t ∙ sym (take-append-le m x y (omega arith))
 
 -- Two appendings, one after the other, are the appending of the joined text.
-pub appended-join : {a b c : List ℕ} {n m k : ℕ} {v w : List ℕ} → Put a n v b m → Put b m w c k → Put a n (v ++ w) c k
-appended-join {a} {b} {c} {n} {m} {k} {v} {w} f g =
-    let s : m ≡ min 65536 (n + length v) = f .appended .size in
-    let t : k ≡ min 65536 (m + length w) = g .appended .size in
-    let z : length a ≡ 65536 = f .appended .buffer in
+pub join : {a b c : List ℕ} {n m k : ℕ} {v w : List ℕ} → Appended a n v b m → Appended b m w c k → Appended a n (v ++ w) c k
+join {a} {b} {c} {n} {m} {k} {v} {w} f g =
+    let s : m ≡ min 65536 (n + length v) = f .size in
+    let t : k ≡ min 65536 (m + length w) = g .size in
+    let z : length a ≡ 65536 = f .buffer in
     let l : length (v ++ w) ≡ length v + length w = length-append v w in
     let p : length (take n a) ≡ min n (length a) = length-take n a in
     let q : length (take n a ++ v) ≡ length (take n a) + length v = length-append (take n a) v in
     record {
-      kept = g .kept ∙ f .kept;
-      appended =
-          record {
-            buffer = z;
-            size = omega arith;
-            text =
-                g .appended .text
-                ∙ ap (λ x. take k (x ++ w)) (f .appended .text)
-                ∙ take-cut m k (take n a ++ v) w (λ h. omega (arith, f .kept))
-                ∙ ap (λ x. take k x) (append-assoc (take n a) v w);
-          };
+      buffer = z;
+      size = omega arith;
+      text =
+          g .text
+          ∙ ap (λ x. take k (x ++ w)) (f .text)
+          ∙ take-cut m k (take n a ++ v) w (λ h. omega arith)
+          ∙ ap (λ x. take k x) (append-assoc (take n a) v w);
     }
+
+pub appended-join : {a b c : List ℕ} {n m k : ℕ} {v w : List ℕ} → Put a n v b m → Put b m w c k → Put a n (v ++ w) c k
+appended-join f g = record { kept = g .kept ∙ f .kept; appended = join (f .appended) (g .appended) }
 
 pub put-none : (a : List ℕ) (n m : ℕ) → length a ≡ 65536 → m ≡ min n (length a) → Put a n [] a m
 put-none a n m z e =

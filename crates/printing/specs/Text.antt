@@ -109,6 +109,14 @@ pub record ExplainedLine (count : ℕ) (witness : List ℕ) (start greedy posix 
   pub cut : SpansLine start greedy posix (spans ++ (10 ∷ []))
   pub text : w ≡ verdict ++ (32 ∷ (spans ++ ((32 ∷ 114 ∷ 101 ∷ 97 ∷ 100 ∷ 97 ∷ 98 ∷ 108 ∷ 101 ∷ 32 ∷ []) ++ (hex readable ++ (10 ∷ [])))))
 
+-- "looks 8 comparisons 14 ": how much looking a check took (request 4), before the verdict's line.
+pub record LookingText (looks comparisons : ℕ) (w : List ℕ) : Type 0 where
+  pub first : List ℕ
+  pub second : List ℕ
+  pub is : Field looks first
+  pub with : Field comparisons second
+  pub text : w ≡ (108 ∷ 111 ∷ 111 ∷ 107 ∷ 115 ∷ []) ++ (first ++ ((32 ∷ 99 ∷ 111 ∷ 109 ∷ 112 ∷ 97 ∷ 114 ∷ 105 ∷ 115 ∷ 111 ∷ 110 ∷ 115 ∷ []) ++ (second ++ (32 ∷ []))))
+
 -- Numbers, each after a space.
 pub data Fields : List ℕ → List ℕ → Type 0 where
   no-fields : Fields [] []

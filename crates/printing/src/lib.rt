@@ -7,7 +7,7 @@ ghost use Prim.Native.Nat.{_<_, min};
 ghost use lib.ListN.{take};
 ghost use Rattle.io.specs.Digits.{digits};
 ghost use Rattle.io.specs.Digits.{glyph as Digits·glyph};
-ghost use Rattle.printing.specs.Text.{Appended, Printed, room, hex, AlikeLine, UnlikeLine, RefusedLine, AcceptedLine, SpansLine, FieldsLine, pairsOf, ExplainedLine, GroupsLine, noneLine};
+ghost use Rattle.printing.specs.Text.{Appended, Printed, room, hex, AlikeLine, UnlikeLine, RefusedLine, AcceptedLine, SpansLine, FieldsLine, pairsOf, ExplainedLine, LookingText, GroupsLine, noneLine};
 ghost use Rattle.printing.specs.Puts.{Put, PutField, PutFields, PutPair, PutPairs, PutLine, Unended};
 
 // How many bytes of the buffer are in use: all of them where n is above its size.
@@ -235,6 +235,17 @@ pub fn explained<'a>(
     let word = put(out, both, b" readable ");
     let line = put_hex(out, word, readable, length);
     put_byte(out, line, b'\n')
+}
+
+// 'looks LOOKS comparisons COMPARISONS ', before a verdict's line
+pub fn looking(out: &mut [u8; 65536], n: usize, looks: usize, comparisons: usize) -> usize
+    ensures printed { λ r. ⌜ Printed 60 (LookingText looks comparisons) (now (out .entry)) n (now (out .exit)) r ⌝ }
+{
+    let word = put(out, n, b"looks");
+    let first = put_field(out, word, looks);
+    let next = put(out, first, b" comparisons");
+    let second = put_field(out, next, comparisons);
+    put_byte(out, second, b' ')
 }
 
 // Numbers, each after a space.

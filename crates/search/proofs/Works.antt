@@ -8,27 +8,29 @@ use native.Mathlib.Omega.{arith}
 use types.Run.{OneOf}
 use denote.Enum.Declared.{tagOf}
 use lib.ListN.{length, getD, List·getD-append}
-use lib.Dec.{eqb→eq}
-use Rattle.theory.specs.Pattern.{Re}
+use Rattle.theory.specs.Pattern.{Re, Numbered}
 use Rattle.theory.specs.Standing.{standing}
 use Rattle.theory.specs.Records.{at}
-use Rattle.theory.proofs.Tests.{either}
+use Rattle.theory.proofs.Tests.{T-true, either}
 use Rattle.theory.proofs.Search.{trace-place}
 use Rattle.theory.proofs.Records.{carries}
 use Rattle.verdict.specs.Table.{slots}
 use Rattle.standing.specs.declared.Standing.{Standing}
 use Rattle.standing.specs.Stands.{Arrays, Lent}
-use Rattle.groups.specs.Numbers.{isLowest, lowestBytes}
+use Rattle.groups.specs.Numbers.{shares, isLowest, lowestBytes, groupsBy, groupsOf}
 use Rattle.groups.specs.Turns.{same}
-use Rattle.groups.proofs.Numbers.{lower-one, lowest-byte, edge, edge-below, between}
-use Rattle.groups.proofs.Laws.{same-masks}
+use Rattle.groups.proofs.Numbers.{lower-one, lowest-byte, edge, edge-below, between, shares-is}
+use Rattle.groups.proofs.Laws.{mask-groups}
 use Rattle.records.specs.Packing.{Unpacked}
 use Rattle.table.specs.Slots.{loaded}
 use Rattle.table.proofs.Laws.{slot-there}
 use Rattle.search.specs.declared.Progress.{Progress}
 use Rattle.search.specs.declared.Progress.the-variants.{Clear, Witness, Full}
-use Rattle.search.specs.Ends.{AllFound, Reached}
-use Rattle.search.specs.Turns.{Searching, Working, Within, Grouping, Turned, Worked, Run}
+use Rattle.search.specs.declared.Looking.{Looking}
+use Rattle.search.specs.declared.Course.{Course}
+use Rattle.search.specs.Looking.{Takes}
+use Rattle.search.specs.Ends.{AllFound}
+use Rattle.search.specs.Turns.{Searching, Working, Within, Grouping, CameTo, Turned, Worked, Run}
 use Rattle.search.proofs.Progress.{the-type}
 use Rattle.search.proofs.Looks.{slot-inside, slot-record}
 use Rattle.search.proofs.Turns.{passed-turn, next-record, all-found}
@@ -40,58 +42,76 @@ not-clear h j e = either (λ x. go x) (λ x. go x) (subst (λ q. OneOf (1 ∷ 2 
     go : {n : ℕ} → 0 ≡ suc n → ⊥
     go x = omega arith
 
+-- A search that has ended is where it is, whatever would hold of one that goes on.
+pub stopped : (r : Re) (t₀ t : List ℕ) (y : Looking) (P Q : ℕ → Type 0) {p : Progress} → ((o : ℕ) → p ≡ Clear o → ⊥) → CameTo r t₀ t y P p → CameTo r t₀ t y Q p
+stopped r t₀ t y P Q {p = Clear o} other x = absurd (other o refl)
+stopped r t₀ t y P Q {p = Witness o} other x = x
+stopped r t₀ t y P Q {p = Full} other x = x
+
+stopped-within : (m n : ℕ) {p : Progress} → ((o : ℕ) → p ≡ Clear o → ⊥) → Within m n p
+stopped-within m n {p = Clear o} other = absurd (other o refl)
+stopped-within m n {p = Witness o} other = tt
+stopped-within m n {p = Full} other = tt
+
 -- The search never goes beyond the bytes.
 edge-most : (share : ℕ → ℕ → Bool) (j : ℕ) → j ≤ length (lowestBytes share) → edge share j ≤ 256
 edge-most share zero h = omega arith
 edge-most share (suc j) h = lowest-byte share j h .0
 
 -- Bytes that are not the lowest of their groups are passed over.
-module _ {r : Re} {a : Arrays} (l : Lent r a) {t₀ : List ℕ} {s : Standing} {q n : ℕ} {t : List ℕ} where
-  -- One adds nothing, since a lower byte has its mask;
-  pass-byte : (c : ℕ) → c < 256 → isLowest (same (a .masks)) c ≡ false → Working r t₀ s q c n t → Working r t₀ s q (suc c) n t
-  pass-byte c byte e w =
-      let (b, lower, alike) = lower-one (same (a .masks)) c e in
-      passed-turn (l .numbered) w byte b lower
-      (same-masks r (a .masks) (λ b p i j. sym (l .masked b p i j)) (l .spare) b c (omega arith) byte .1 (eqb→eq (getD (a .masks) b 0) (getD (a .masks) c 0) alike))
+module _ {r : Re} (d : Numbered 0 r) {t₀ : List ℕ} {s : Standing} {q n : ℕ} {y : Looking} {t : List ℕ} where
+  -- One adds nothing, since a lower byte shares its group;
+  pass-byte : (c : ℕ) → c < 256 → isLowest (shares r) c ≡ false → Working r t₀ s q c n y t → Working r t₀ s q (suc c) n y t
+  pass-byte c byte e w = let (b, lower, alike) = lower-one (shares r) c e in passed-turn d w byte b lower (shares-is r b c .0 alike) e
 
   -- nor do those from c on and below e.
-  pass-bytes : (d c e : ℕ) → c + d ≡ e → e ≤ 256 → ((b : ℕ) → c ≤ b → b < e → isLowest (same (a .masks)) b ≡ false) → Working r t₀ s q c n t → Working r t₀ s q e n t
-  pass-bytes zero c e i h none w = let here : c ≡ e = omega arith in subst (λ x. Working r t₀ s q x n t) here w
-  pass-bytes (suc d) c e i h none w =
-      pass-bytes d (suc c) e (omega arith) h (λ b g. none b (omega arith)) (pass-byte c (omega arith) (none c (omega arith) (omega arith)) w)
+  pass-bytes : (k c e : ℕ) → c + k ≡ e → e ≤ 256 → ((b : ℕ) → c ≤ b → b < e → isLowest (shares r) b ≡ false) → Working r t₀ s q c n y t → Working r t₀ s q e n y t
+  pass-bytes zero c e i h none w = let here : c ≡ e = omega arith in subst (λ x. Working r t₀ s q x n y t) here w
+  pass-bytes (suc k) c e i h none w =
+      pass-bytes k (suc c) e (omega arith) h (λ b g. none b (omega arith)) (pass-byte c (omega arith) (none c (omega arith) (omega arith)) w)
 
   -- After the first j of the lowest bytes the search comes to the next of them,
-  to-lowest : (j : ℕ) → j < length (lowestBytes (same (a .masks))) → Working r t₀ s q (edge (same (a .masks)) j) n t → Working r t₀ s q (getD (lowestBytes (same (a .masks))) j 0) n t
+  to-lowest : (j : ℕ) → j < length (lowestBytes (shares r)) → Working r t₀ s q (edge (shares r) j) n y t → Working r t₀ s q (getD (lowestBytes (shares r)) j 0) n y t
   to-lowest j h w =
-      let share : ℕ → ℕ → Bool = same (a .masks) in
-      let c : ℕ = getD (lowestBytes share) j 0 in
-      let byte : c < 256 = lowest-byte share j h .0 in
-      let below : edge share j ≤ c = edge-below share j h in
-      pass-bytes (c - edge share j) (edge share j) c (omega arith) (omega arith) (λ b g i. between share j b (omega arith) g (omega arith) (λ _. i)) w
+      let c : ℕ = getD (lowestBytes (shares r)) j 0 in
+      let byte : c < 256 = lowest-byte (shares r) j h .0 in
+      let below : edge (shares r) j ≤ c = edge-below (shares r) j h in
+      pass-bytes (c - edge (shares r) j) (edge (shares r) j) c (omega arith) (omega arith) (λ b g i. between (shares r) j b (omega arith) g (omega arith) (λ _. i)) w
 
   -- and after all of them to the end.
-  to-end : (j : ℕ) → j ≡ length (lowestBytes (same (a .masks))) → Working r t₀ s q (edge (same (a .masks)) j) n t → Working r t₀ s q 256 n t
+  to-end : (j : ℕ) → j ≡ length (lowestBytes (shares r)) → Working r t₀ s q (edge (shares r) j) n y t → Working r t₀ s q 256 n y t
   to-end j h w =
-      let share : ℕ → ℕ → Bool = same (a .masks) in
-      let most : edge share j ≤ 256 = edge-most share j (omega arith) in
-      pass-bytes (256 - edge share j) (edge share j) 256 (omega arith) (omega arith) (λ b g i. between share j b (omega arith) g i (λ k. absurd (omega arith))) w
+      let most : edge (shares r) j ≤ 256 = edge-most (shares r) j (omega arith) in
+      pass-bytes (256 - edge (shares r) j) (edge (shares r) j) 256 (omega arith) (omega arith) (λ b g i. between (shares r) j b (omega arith) g i (λ k. absurd (omega arith))) w
 
--- Record q is carried on by the first j of the lowest bytes, and so by all bytes before the next; the table, t₁ before, has k records.
-pub record AtGroup (a : Arrays) (low : List ℕ) (count q n m : ℕ) (t₁ : List ℕ) (s : Standing) (j k : ℕ) (t : List ℕ) : Type 0 where
+-- The groups of the masks are the pattern's.
+module _ {r : Re} {a : Arrays} (l : Lent r a) {low : List ℕ} {count : ℕ} (known : Grouping (a .masks) low count) where
+  pattern-groups : groupsBy (same (a .masks)) ≡ groupsOf r
+  pattern-groups = mask-groups r (a .masks) (λ b p i j. sym (l .masked b p i j)) (l .spare)
+
+  group-count : count ≡ length (lowestBytes (shares r))
+  group-count = known .1 ∙ ap (λ g. g .count) pattern-groups
+
+  group-lowest : (j : ℕ) → j < count → getD low j 0 ≡ getD (lowestBytes (shares r)) j 0
+  group-lowest j h = ap (λ z. getD z j 0) (known .0 ∙ ap (λ g. g .lowest) pattern-groups) ∙ List·getD-append (lowestBytes (shares r)) _ 0 j (omega (arith, group-count))
+
+-- Record q is carried on by the first j of the lowest bytes, and so by all bytes before the next; the table, t₁ before, has k records, and the looking, y₁ before, is y.
+pub record AtGroup (a : Arrays) (low : List ℕ) (count q n m : ℕ) (y₁ : Looking) (t₁ : List ℕ) (s : Standing) (j k : ℕ) (y : Looking) (t : List ℕ) : Type 0 where
   pub groups : j ≤ count
   pub size : length t ≡ length t₁
   pub within : n ≤ m → k ≤ m
-  pub works : Grouping (a .masks) low count → {r : Re} {t₀ : List ℕ} → Lent r a → m ≡ slots (length t₀) → q < n → Searching r t₀ q 0 n t₁ → Working r t₀ s q (edge (same (a .masks)) j) k t
+  pub works : Grouping (a .masks) low count → {r : Re} {t₀ : List ℕ} → Lent r a → m ≡ slots (length t₀) → q < n → Searching r t₀ q 0 n y₁ t₁ → Working r t₀ s q (edge (shares r) j) k y t
 
--- The records before q are carried on; the table, t₁ with record 0, has k records.
-pub record AtRecord (a : Arrays) (known : Type 0) (m : ℕ) (t₁ : List ℕ) (q k : ℕ) (t : List ℕ) : Type 0 where
+-- The records before q are carried on; the table, t₁ with record 0, has k records, and the looking is y.
+pub record AtRecord (a : Arrays) (known : Type 0) (m : ℕ) (t₁ : List ℕ) (q k : ℕ) (y : Looking) (t : List ℕ) : Type 0 where
+  pub slot : 0 < m
   pub size : length t ≡ length t₁
   pub within : k ≤ m
-  pub found : known → {r : Re} {t₀ : List ℕ} → Lent r a → m ≡ slots (length t₀) → Searching r t₀ 0 0 1 t₁ → Searching r t₀ q 0 k t
+  pub found : known → {r : Re} {t₀ : List ℕ} → Lent r a → m ≡ slots (length t₀) → Searching r t₀ 0 0 1 (record { looks = 0; comparisons = 0 }) t₁ → Searching r t₀ q 0 k y t
 
 module _ {a : Arrays} where
-  module _ {low : List ℕ} {count q n m : ℕ} {t₁ : List ℕ} where
-    pub group-start : {s : Standing} → Unpacked (loaded t₁ q) s → AtGroup a low count q n m t₁ s 0 n t₁
+  module _ {low : List ℕ} {count q n m : ℕ} {y₁ : Looking} {t₁ : List ℕ} where
+    pub group-start : {s : Standing} → Unpacked (loaded t₁ q) s → AtGroup a low count q n m y₁ t₁ s 0 n y₁ t₁
     group-start u = record {
       groups = omega arith;
       size = refl;
@@ -103,60 +123,65 @@ module _ {a : Arrays} where
     }
 
     -- The next of the lowest bytes is tried.
-    module _ {s : Standing} {j k : ℕ} {t t′ : List ℕ} {p : Progress} (h : j < count) (b : AtGroup a low count q n m t₁ s j k t) (x : Turned a s q (getD low j 0) k m t p t′) where
-      tried : Grouping (a .masks) low count → {r : Re} {t₀ : List ℕ} → Lent r a → m ≡ slots (length t₀) → q < n → Searching r t₀ q 0 n t₁
-          → Reached r t₀ t′ (λ z. Working r t₀ s q (edge (same (a .masks)) (suc j)) z t′) p
-      tried (lowest, counted) l f i y =
-          let there : j < length (lowestBytes (same (a .masks))) = omega arith in
-          let is : getD low j 0 ≡ getD (lowestBytes (same (a .masks))) j 0 = ap (λ z. getD z j 0) lowest ∙ List·getD-append (lowestBytes (same (a .masks))) _ 0 j there in
-          subst (λ c. Turned a s q c k m t p t′) is x .leads l f (lowest-byte (same (a .masks)) j there .0) (to-lowest l j there (b .works (lowest, counted) l f i y))
+    module _ {s : Standing} {j k : ℕ} {y : Looking} {t t′ : List ℕ} {x : Course} (h : j < count) (b : AtGroup a low count q n m y₁ t₁ s j k y t) (turned : Turned a s q (getD low j 0) k m y t x t′) where
+      tried : Grouping (a .masks) low count → {r : Re} {t₀ : List ℕ} → Lent r a → m ≡ slots (length t₀) → q < n → Searching r t₀ q 0 n y₁ t₁
+          → CameTo r t₀ t′ (x .looking) (λ z. Working r t₀ s q (edge (shares r) (suc j)) z (x .looking) t′) (x .progress)
+      tried known {r} l f i z =
+          let there : j < length (lowestBytes (shares r)) = omega (arith, group-count l known) in
+          let (byte, lowest) = lowest-byte (shares r) j there in
+          subst (λ c. Turned a s q c k m y t x t′) (group-lowest l known j h) turned .leads l f byte (T-true _ lowest) (to-lowest (l .numbered) j there (b .works known l f i z))
 
-      pub group-step : {o : ℕ} → length t′ ≡ length t → p ≡ Clear o → AtGroup a low count q n m t₁ s (j + 1) o t′
+      pub group-step : {o : ℕ} → length t′ ≡ length t → x .progress ≡ Clear o → AtGroup a low count q n m y₁ t₁ s (j + 1) o (x .looking) t′
       group-step {o} g e =
           let more : suc j ≡ j + 1 = omega arith in
           record {
             groups = omega arith;
             size = g ∙ b .size;
-            within = λ i. subst (Within m k) e (x .within) (b .within i);
-            works = λ u {r} {t₀} l f i y. subst (λ z. Working r t₀ s q (edge (same (a .masks)) z) o t′) more (subst (Reached r t₀ t′ (λ z. Working r t₀ s q (edge (same (a .masks)) (suc j)) z t′)) e (tried u l f i y));
+            within = λ i. subst (Within m k) e (turned .within) (b .within i);
+            works = λ u {r} {t₀} l f i z.
+                subst (λ i. Working r t₀ s q (edge (shares r) i) o (x .looking) t′) more
+                (subst (CameTo r t₀ t′ (x .looking) (λ z. Working r t₀ s q (edge (shares r) (suc j)) z (x .looking) t′)) e (tried u l f i z));
           }
 
-    -- The search ends within the record,
-    pub group-stop : {s : Standing} {j k : ℕ} {t t′ : List ℕ} {p : Progress} → j < count → AtGroup a low count q n m t₁ s j k t → Turned a s q (getD low j 0) k m t p t′ → ((o : ℕ) → p ≡ Clear o → ⊥)
-        → Worked (Grouping (a .masks) low count) a q n m t₁ p t′
-    group-stop {p = Clear o} h b x other = absurd (other o refl)
-    group-stop {p = Witness o} h b x other = record { within = tt; leads = tried h b x }
-    group-stop {p = Full} h b x other = record { within = tt; leads = tried h b x }
+      -- The search ends within the record,
+      pub group-stop : ((o : ℕ) → x .progress ≡ Clear o → ⊥) → Worked (Grouping (a .masks) low count) a q n m y₁ t₁ x t′
+      group-stop other = record {
+        within = stopped-within m n other;
+        leads = λ u {r} {t₀} l f i z. stopped r t₀ t′ (x .looking) _ _ other (tried u l f i z);
+      }
 
     -- or goes through all its groups.
-    pub group-end : {s : Standing} {j k : ℕ} {t : List ℕ} → count ≤ j → AtGroup a low count q n m t₁ s j k t → Worked (Grouping (a .masks) low count) a q n m t₁ (Clear k) t
+    pub group-end : {s : Standing} {j k : ℕ} {y : Looking} {t : List ℕ} → count ≤ j → AtGroup a low count q n m y₁ t₁ s j k y t → Worked (Grouping (a .masks) low count) a q n m y₁ t₁ (record { progress = Clear k; looking = y }) t
     group-end {j = j} h b = record {
       within = b .within;
-      leads = λ (lowest, counted) l f i y. next-record (l .numbered) (to-end l j (omega (arith, b .groups)) (b .works (lowest, counted) l f i y));
+      leads = λ known l f i z. next-record (l .numbered) (to-end (l .numbered) j (omega (arith, b .groups, group-count l known)) (b .works known l f i z));
     }
 
   module _ {known : Type 0} {m : ℕ} {t₁ : List ℕ} where
-    pub record-start : 0 < m → AtRecord a known m t₁ 0 1 t₁
-    record-start h = record { size = refl; within = h; found = λ u l e x. x }
+    pub record-start : 0 < m → AtRecord a known m t₁ 0 1 (record { looks = 0; comparisons = 0 }) t₁
+    record-start h = record { slot = h; size = refl; within = h; found = λ u l e x. x }
 
-    pub record-step : {q k j : ℕ} {t t′ : List ℕ} {p : Progress} → q < k → length t′ ≡ length t → AtRecord a known m t₁ q k t → Worked known a q k m t p t′ → p ≡ Clear j → AtRecord a known m t₁ (q + 1) j t′
-    record-step {q} {k} {j} {t′ = t′} h i b x e =
-        let more : suc q ≡ q + 1 = omega arith in
-        record {
-          size = i ∙ b .size;
-          within = subst (Within m k) e (x .within) (b .within);
-          found = λ u {r} {t₀} l f y. subst (λ z. Searching r t₀ z 0 j t′) more (subst (Reached r t₀ t′ (λ z. Searching r t₀ (suc q) 0 z t′)) e (x .leads u l f h (b .found u l f y)));
-        }
+    module _ {q k : ℕ} {y : Looking} {t t′ : List ℕ} {x : Course} (h : q < k) (b : AtRecord a known m t₁ q k y t) (worked : Worked known a q k m y t x t′) where
+      pub record-step : {j : ℕ} → length t′ ≡ length t → x .progress ≡ Clear j → AtRecord a known m t₁ (q + 1) j (x .looking) t′
+      record-step {j} i e =
+          let more : suc q ≡ q + 1 = omega arith in
+          record {
+            slot = b .slot;
+            size = i ∙ b .size;
+            within = subst (Within m k) e (worked .within) (b .within);
+            found = λ u {r} {t₀} l f z.
+                subst (λ i. Searching r t₀ i 0 j (x .looking) t′) more
+                (subst (CameTo r t₀ t′ (x .looking) (λ z. Searching r t₀ (suc q) 0 z (x .looking) t′)) e (worked .leads u l f h (b .found u l f z)));
+          }
 
-    pub record-stop : {q k : ℕ} {t t′ : List ℕ} {p : Progress} → q < k → AtRecord a known m t₁ q k t → Worked known a q k m t p t′ → ((j : ℕ) → p ≡ Clear j → ⊥) → Run known a m t₁ p t′
-    record-stop {p = Clear j} h b x other = absurd (other j refl)
-    record-stop {p = Witness j} h b x other = record { leads = λ u l f y. x .leads u l f h (b .found u l f y) }
-    record-stop {p = Full} h b x other = record { leads = λ u l f y. x .leads u l f h (b .found u l f y) }
+      pub record-stop : ((j : ℕ) → x .progress ≡ Clear j → ⊥) → Run known a m t₁ x t′
+      record-stop other = record { leads = λ u {r} {t₀} l f z. stopped r t₀ t′ (x .looking) _ _ other (worked .leads u l f h (b .found u l f z)) }
 
-    pub record-end : {q k : ℕ} {t : List ℕ} → k ≤ q → AtRecord a known m t₁ q k t → Run known a m t₁ (Clear k) t
-    record-end {q} {k} {t} h b = record { leads = λ u l f y. go l (b .found u l f y) }
+    pub record-end : {q k : ℕ} {y : Looking} {t : List ℕ} → k ≤ q → AtRecord a known m t₁ q k y t → Run known a m t₁ (record { progress = Clear k; looking = y }) t
+    record-end {q} {k} {y} {t} h b = record { leads = λ u l f z. go l f (b .found u l f z) }
       where
-        go : {r : Re} {t₀ : List ℕ} → Lent r a → Searching r t₀ q 0 k t → AllFound r t₀ k t
-        go {r} {t₀} l x =
+        go : {r : Re} {t₀ : List ℕ} → Lent r a → m ≡ slots (length t₀) → Searching r t₀ q 0 k y t → AllFound r t₀ k t × Takes r m y
+        go {r} {t₀} l f x =
             let last : q ≡ k = either (λ i. absurd (omega (arith, x .size))) (λ i. i .0 ∙ x .size) (trace-place (standing r) (carries r (l .numbered)) 256 (x .search)) in
-            all-found (l .numbered) (subst (λ z. Searching r t₀ z 0 k t) last x)
+            let (found, taken) = all-found (l .numbered) (omega (arith, b .slot)) (subst (λ z. Searching r t₀ z 0 k y t) last x) in
+            (found, subst (λ k. Takes r k y) (sym f) taken)

@@ -13,6 +13,8 @@ use Rattle.verdict.specs.Table.{records, slots, onto}
 use Rattle.standing.specs.Stands.{Arrays, Lent}
 use Rattle.search.specs.declared.Progress.{Progress}
 use Rattle.search.specs.declared.Progress.the-variants as Progress
+use Rattle.search.specs.declared.Course.{Course}
+use Rattle.search.specs.Looking.{Takes}
 
 -- The table t, once t₀, holds the records of the lines L.
 pub record HoldsRecords (r : Re) (t₀ : List ℕ) (L : List (List ℕ)) (t : List ℕ) : Type 0 where
@@ -51,6 +53,7 @@ Reached r t₀ t P (Progress.Clear n) = P n
 Reached r t₀ t P (Progress.Witness n) = WitnessFound r t₀ n t
 Reached r t₀ t P Progress.Full = SlotsFull r t₀ t
 
--- The search of the pattern whose arrays are lent, from the table t₀ to the table t.
-pub record Searched (a : Arrays) (t₀ : List ℕ) (p : Progress) (t : List ℕ) : Type 0 where
-  pub ends : {r : Re} → Lent r a → Reached r t₀ t (λ n. AllFound r t₀ n t) p
+-- The search of the pattern whose arrays are lent, from the table t₀ to the table t, and the looking that it takes.
+pub record Searched (a : Arrays) (t₀ : List ℕ) (x : Course) (t : List ℕ) : Type 0 where
+  pub ends : {r : Re} → Lent r a → Reached r t₀ t (λ n. AllFound r t₀ n t) (x .progress)
+  pub looking : {r : Re} → Lent r a → Takes r (slots (length t₀)) (x .looking)

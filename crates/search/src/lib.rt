@@ -2,11 +2,12 @@
 // It ends when no record is left, at the first witness, or when a record is needed and no slot is left.
 ghost use mathlib.Core.Path.{_≡_};
 ghost use mathlib.Core.Bool.{not, _&&_};
-ghost use Prim.Native.Nat.{_≤_, _<_};
+ghost use Prim.Native.Nat.{_+_, _≤_, _<_};
 ghost use Rattle.verdict.specs.Table.{slots};
 ghost use Rattle.standing.specs.Stands.{arrays};
 ghost use Rattle.search.specs.Ends.{Searched};
-ghost use Rattle.search.specs.Turns.{Turned, Grouping, Worked, Run};
+ghost use Rattle.search.specs.Looking.{saturated};
+ghost use Rattle.search.specs.Turns.{more, Turned, Grouping, Worked, Run};
 use standing::Standing;
 
 // How far the search has come.
@@ -17,6 +18,18 @@ pub enum Progress {
     Witness(usize),
     // no slot for the next record
     Full,
+}
+
+// How much looking a search takes: how many looks through the records, and how many records they compare. A number that would be above the greatest is this.
+pub struct Looking {
+    pub looks: usize,
+    pub comparisons: usize,
+}
+
+// How far the search has come, and the looking that it took.
+pub struct Course {
+    pub progress: Progress,
+    pub looking: Looking,
 }
 
 fn slots_of(len: usize) -> usize
@@ -32,6 +45,25 @@ fn is_witness(first: bool, some: bool) -> bool
     some && !first
 }
 
+fn plus(a: usize, b: usize) -> usize
+    ensures { λ r. ⌜ r ≡ saturated (a + b) ⌝ }
+{
+    if usize::MAX - a < b {
+        return usize::MAX;
+    }
+    a + b
+}
+
+// One look more, which compared n records.
+fn one_more(x: Looking, n: usize) -> Looking
+    ensures { λ r. ⌜ r ≡ more x n ⌝ }
+{
+    Looking {
+        looks: plus(x.looks, 1),
+        comparisons: plus(x.comparisons, n),
+    }
+}
+
 // Record q, whose standing is s, carried on by the byte c. The table has n records, and so many slots.
 fn carry<'a>(
     table: &mut [u8],
@@ -40,27 +72,42 @@ fn carry<'a>(
     c: u8,
     n: usize,
     slots: usize,
+    looking: Looking,
     masks: &'a [u64; 256],
     rows: &'a [u8; 4225],
     lens: &'a [u8; 65],
     sets: &'a [u64; 65],
     ends: &'a [u8; 65],
-) -> Progress
-    ensures { λ r. ⌜ Turned (arrays (now (masks .entry)) (now (rows .entry)) (now (lens .entry)) (now (sets .entry)) (now (ends .entry))) s q c n slots (now (table .entry)) r (now (table .exit)) ⌝ }
+) -> Course
+    ensures { λ r. ⌜ Turned (arrays (now (masks .entry)) (now (rows .entry)) (now (lens .entry)) (now (sets .entry)) (now (ends .entry))) s q c n slots looking (now (table .entry)) r (now (table .exit)) ⌝ }
 {
     let after = s.next(c, masks, rows, lens, sets, ends);
     let v = records::pack(after, q, c);
-    if table::find(table, n, &v) < n {
-        return Progress::Clear(n);
+    let look = table::find(table, n, &v);
+    let looking = one_more(looking, look.compared);
+    if look.found {
+        return Course {
+            progress: Progress::Clear(n),
+            looking,
+        };
     }
     if slots <= n {
-        return Progress::Full;
+        return Course {
+            progress: Progress::Full,
+            looking,
+        };
     }
     table::store(table, n, &v);
     if is_witness(after.first, after.some) {
-        return Progress::Witness(n + 1);
+        return Course {
+            progress: Progress::Witness(n + 1),
+            looking,
+        };
     }
-    Progress::Clear(n + 1)
+    Course {
+        progress: Progress::Clear(n + 1),
+        looking,
+    }
 }
 
 // Record q carried on by the lowest byte of each group, upwards: the others lead nowhere else.
@@ -69,6 +116,7 @@ fn work<'a>(
     q: usize,
     n: usize,
     slots: usize,
+    looking: Looking,
     lowest: &'a [u8; 256],
     count: usize,
     masks: &'a [u64; 256],
@@ -76,34 +124,41 @@ fn work<'a>(
     lens: &'a [u8; 65],
     sets: &'a [u64; 65],
     ends: &'a [u8; 65],
-) -> Progress
+) -> Course
     requires { ⌜ count ≤ 256 ⌝ }
-    ensures { λ r. ⌜ Worked (Grouping (now (masks .entry)) (now (lowest .entry)) count) (arrays (now (masks .entry)) (now (rows .entry)) (now (lens .entry)) (now (sets .entry)) (now (ends .entry))) q n slots (now (table .entry)) r (now (table .exit)) ⌝ }
+    ensures { λ r. ⌜ Worked (Grouping (now (masks .entry)) (now (lowest .entry)) count) (arrays (now (masks .entry)) (now (rows .entry)) (now (lens .entry)) (now (sets .entry)) (now (ends .entry))) q n slots looking (now (table .entry)) r (now (table .exit)) ⌝ }
 {
     let s = records::unpack(table::load(table, q));
     let mut n = n;
+    let mut looking = looking;
     let mut k = 0;
     while k < count {
-        let p = carry(
+        let x = carry(
             table,
             s,
             q,
             lowest[k],
             n,
             slots,
+            looking,
             masks,
             rows,
             lens,
             sets,
             ends,
         );
+        let p = x.progress;
         let Progress::Clear(more) = p else {
-            return p;
+            return x;
         };
         n = more;
+        looking = x.looking;
         k += 1;
     }
-    Progress::Clear(n)
+    Course {
+        progress: Progress::Clear(n),
+        looking,
+    }
 }
 
 // From record 0 on, each record in turn.
@@ -117,18 +172,23 @@ fn run<'a>(
     lens: &'a [u8; 65],
     sets: &'a [u64; 65],
     ends: &'a [u8; 65],
-) -> Progress
+) -> Course
     requires { ⌜ (0 < slots) × (slots ≤ 65535) × (count ≤ 256) ⌝ }
     ensures { λ r. ⌜ Run (Grouping (now (masks .entry)) (now (lowest .entry)) count) (arrays (now (masks .entry)) (now (rows .entry)) (now (lens .entry)) (now (sets .entry)) (now (ends .entry))) slots (now (table .entry)) r (now (table .exit)) ⌝ }
 {
     let mut n = 1;
+    let mut looking = Looking {
+        looks: 0,
+        comparisons: 0,
+    };
     let mut q = 0;
     while q < n {
-        let p = work(
+        let x = work(
             table,
             q,
             n,
             slots,
+            looking,
             lowest,
             count,
             masks,
@@ -137,13 +197,18 @@ fn run<'a>(
             sets,
             ends,
         );
+        let p = x.progress;
         let Progress::Clear(k) = p else {
-            return p;
+            return x;
         };
         n = k;
+        looking = x.looking;
         q += 1;
     }
-    Progress::Clear(n)
+    Course {
+        progress: Progress::Clear(n),
+        looking,
+    }
 }
 
 // Searches the standings of the pattern whose masks and follow tables are lent. Slots that are not needed, and bytes after the last slot, are kept.
@@ -154,12 +219,18 @@ pub fn search<'a>(
     lens: &'a [u8; 65],
     sets: &'a [u64; 65],
     ends: &'a [u8; 65],
-) -> Progress
+) -> Course
     ensures searched { λ r. ⌜ Searched (arrays (now (masks .entry)) (now (rows .entry)) (now (lens .entry)) (now (sets .entry)) (now (ends .entry))) (now (table .entry)) r (now (table .exit)) ⌝ }
 {
     let slots = slots_of(table.len());
     if slots == 0 {
-        return Progress::Full;
+        return Course {
+            progress: Progress::Full,
+            looking: Looking {
+                looks: 0,
+                comparisons: 0,
+            },
+        };
     }
     let g = groups::groups_of(masks);
     let lowest = g.lowest;

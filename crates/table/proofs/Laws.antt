@@ -1,8 +1,9 @@
--- Where the bytes of a slot stand in the table, and what the fields of a record say: two records agree just where their standings are equal,
+-- Where the bytes of a slot stand in the table, and what the fields of a record say: a comparison of two finds no unequal byte just where their standings are equal,
 -- and the origin fields hold the numbers put there.
 -- Assumes nothing.
 use mathlib.Core.Path.{_≡_, refl, sym, ap, ap₂, _∙_}
 use Prim.Native.Nat.{ℕ, _+_, _*_, _/_, _%_, _≤_, _<_}
+use mathlib.Core.Bool.{true}
 use mathlib.Core.List.{List, [], _∷_, _++_}
 use native.Mathlib.Omega.{arith}
 use native.Mathlib.Decide.{decLt}
@@ -13,8 +14,11 @@ use Rattle.theory.specs.Pattern.{Re, Numbered, count}
 use Rattle.theory.specs.Standing.{Standing, standing}
 use Rattle.verdict.specs.Record.{recordBytes}
 use Rattle.verdict.proofs.Packed.{one, setBytes, sixBytes, packed}
+use Rattle.verdict.proofs.Tables.{record-64}
 use Rattle.verdict.proofs.Injective.{record-injective}
-use Rattle.table.specs.Slots.{slotAt, ifSlot, put, Agree}
+use Rattle.table.specs.Slots.{slotAt, ifSlot, put}
+use Rattle.table.specs.Looks.{sameStanding}
+use Rattle.table.proofs.Comparisons.{equal-same, same-equal}
 
 -- Where the table has a slot k, and where it does not.
 pub slot-there : {A : Type 0} (t : List ℕ) (k : ℕ) (x y : A) → k < length t / 64 → ifSlot t k x y ≡ x
@@ -71,15 +75,17 @@ module _ (s : Standing) (o b : ℕ) where
   pub byte-of : b < 256 → getD (recordBytes s o b) 12 0 ≡ b
   byte-of h = let e = field-of 2 in omega arith
 
--- Records of one standing agree,
-pub same-agree : (s : Standing) (o b o′ b′ : ℕ) → Agree (recordBytes s o b) (recordBytes s o′ b′)
-same-agree s o b o′ b′ = record { front = front-of s o b ∙ sym (front-of s o′ b′); back = back-of s o b ∙ sym (back-of s o′ b′) }
+-- Records of one standing are found to be,
+pub same-agree : (s : Standing) (o b o′ b′ : ℕ) → sameStanding (recordBytes s o b) (recordBytes s o′ b′) ≡ true
+same-agree s o b o′ b′ = equal-same (recordBytes s o b) (recordBytes s o′ b′) (front-of s o b ∙ sym (front-of s o′ b′)) (back-of s o b ∙ sym (back-of s o′ b′))
 
--- and records of two standings of a pattern do not.
-pub agree-same : (r : Re) → Numbered 0 r → count r ≤ 64 → (v w : List ℕ) (o b o′ b′ : ℕ) → Agree (recordBytes (standing r v) o b) (recordBytes (standing r w) o′ b′) → standing r v ≡ standing r w
+-- and records of two standings of a pattern are not.
+pub agree-same : (r : Re) → Numbered 0 r → count r ≤ 64 → (v w : List ℕ) (o b o′ b′ : ℕ) → sameStanding (recordBytes (standing r v) o b) (recordBytes (standing r w) o′ b′) ≡ true
+    → standing r v ≡ standing r w
 agree-same r d few v w o b o′ b′ a =
     let s = standing r v in
     let t = standing r w in
-    let f : front s ≡ front t = sym (front-of s o b) ∙ a .front ∙ front-of t o′ b′ in
-    let g : back s ≡ back t = sym (back-of s o b) ∙ a .back ∙ back-of t o′ b′ in
+    let (low, high) = same-equal (recordBytes s o b) (recordBytes t o′ b′) (record-64 s o b) (record-64 t o′ b′) a in
+    let f : front s ≡ front t = sym (front-of s o b) ∙ low ∙ front-of t o′ b′ in
+    let g : back s ≡ back t = sym (back-of s o b) ∙ high ∙ back-of t o′ b′ in
     record-injective r d few v w 0 0 0 0 (packed s 0 0 ∙ ap₂ (λ x y. x ++ (0 ∷ 0 ∷ 0 ∷ y)) f g ∙ sym (packed t 0 0))

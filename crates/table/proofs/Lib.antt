@@ -1,5 +1,6 @@
--- The laws of the slots, and of the records in them.
+-- The laws of the slots, of the records in them, and of the look.
 pub mod Laws
--- What the loops of the code do: a record is copied, a slot compared.
+pub mod Comparisons
+pub mod Looks
+-- What the loops of the code do: a record is copied.
 mod Copies
-mod Runs

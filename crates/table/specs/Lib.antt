@@ -1,4 +1,4 @@
--- The slots of a table, and the look through them.
+-- The slots of a table.
 pub mod Slots
--- What the code compares on the way.
+-- The look through the records in them.
 pub mod Looks

@@ -1,21 +1,36 @@
--- What the look compares: runs of bytes, and whole slots outside the origin fields.
+-- The look through the records of a table, and its comparisons (request 4 of paper 02).
 -- Assumes nothing.
-use mathlib.Core.Path.{_≡_}
-use Prim.Native.Nat.{ℕ, _+_, _≤_, _<_}
-use mathlib.Core.Bool.{Bool, true, false}
+use Prim.Native.Nat.{ℕ, zero, suc, _-_, min}
+use mathlib.Core.Bool.{Bool, true, false, cond}
 use mathlib.Core.List.{List}
-use lib.ListN.{getD, take, drop}
-use Rattle.table.specs.Slots.{Agree}
+use lib.ListN.{getD}
+use lib.Dec.{eqb, ltb}
+use Rattle.table.specs.Slots.{slotAt}
+use Rattle.table.specs.declared.Look.{Look}
 
--- From `from` up to `to` the bytes of v stand in the table, each as far after `at` as it is in v.
-abbrev pub EqualRun : List ℕ → ℕ → List ℕ → ℕ → ℕ → Type 0
-EqualRun t at v from to = (i : ℕ) → from ≤ i → i < to → getD t (at + i) 0 ≡ getD v i 0
+-- The place of the first unequal byte of u and v among the n from place i on; i + n if there is none.
+unfoldable pub firstUnequal : ℕ → ℕ → List ℕ → List ℕ → ℕ
+firstUnequal zero i u v = i
+firstUnequal (suc n) i u v = cond (eqb (getD u i 0) (getD v i 0)) (firstUnequal n (suc i) u v) i
 
--- The slot that begins at `at` agrees with v.
-abbrev pub AgreesAt : List ℕ → ℕ → List ℕ → Type 0
-AgreesAt t at v = Agree (take 64 (drop at t)) v
+-- "A comparison [ends] at the first unequal byte outside the origin fields", which are bytes 10 to 12: the place of that byte. 64 if there is none.
+unfoldable pub comparisonEnd : List ℕ → List ℕ → ℕ
+comparisonEnd u v = cond (ltb (firstUnequal 10 0 u v) 10) (firstUnequal 10 0 u v) (firstUnequal 51 13 u v)
 
--- The answer r to whether P holds.
-pub record Tells (P : Type 0) (r : Bool) : Type 0 where
-  pub holds : r ≡ true → P
-  pub fails : r ≡ false → P → ⊥
+-- How many bytes of each record a comparison looks at that ends there.
+abbrev pub bytesCompared : ℕ → ℕ
+bytesCompared e = cond (ltb e 10) (suc e) (min (e - 2) 61)
+
+-- Two records are "of the same standing": the comparison finds no unequal byte.
+abbrev pub sameStanding : List ℕ → List ℕ → Bool
+sameStanding u v = eqb (comparisonEnd u v) 64
+
+-- "The look is to go upwards from record 0 and end at the first such record. [It] hands back how many records it compared: the found one's number plus 1, or all of
+-- them if none has the standing." The look for v from record k on, where n are left; its number where none is found is the one that a further record gets.
+unfoldable pub lookFrom : List ℕ → List ℕ → ℕ → ℕ → Look
+lookFrom t v zero k = record { found = false; number = k; compared = k }
+lookFrom t v (suc n) k = cond (sameStanding (slotAt t k) v) (record { found = true; number = k; compared = suc k }) (lookFrom t v n (suc k))
+
+-- The look through n records.
+abbrev pub look : List ℕ → ℕ → List ℕ → Look
+look t n v = lookFrom t v n 0

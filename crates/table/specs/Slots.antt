@@ -1,7 +1,6 @@
--- The slots of a table of any length, and the look through them.
+-- The slots of a table of any length.
 -- Assumes nothing.
-use mathlib.Core.Path.{_≡_}
-use Prim.Native.Nat.{ℕ, _+_, _*_, _/_, _≤_, _<_}
+use Prim.Native.Nat.{ℕ, _+_, _*_, _/_}
 use mathlib.Core.Bool.{cond}
 use mathlib.Core.List.{List}
 use lib.ListN.{length, getD, take, drop, replicate}
@@ -30,14 +29,3 @@ originAt t k = ifSlot t k (256 * getD t (64 * k + 10) 0 + getD t (64 * k + 11) 0
 
 abbrev pub byteAt : List ℕ → ℕ → ℕ
 byteAt t k = ifSlot t k (getD t (64 * k + 12) 0) 0
-
--- Two records are equal outside the origin fields.
-pub record Agree (u v : List ℕ) : Type 0 where
-  pub front : take 10 u ≡ take 10 v
-  pub back : drop 13 u ≡ drop 13 v
-
--- The look from slot 0 upwards through n slots: k is the first that agrees with v, or n if none does.
-pub record Looked (t : List ℕ) (n : ℕ) (v : List ℕ) (k : ℕ) : Type 0 where
-  pub most : k ≤ n
-  pub before : (j : ℕ) → j < k → Agree (slotAt t j) v → ⊥
-  pub here : k < n → Agree (slotAt t k) v

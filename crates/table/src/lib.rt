@@ -1,9 +1,19 @@
 // A table of 64-byte slots, of any length: records put in and taken out, the look for one, and the origin fields.
 ghost use mathlib.Core.Path.{_≡_};
-ghost use Prim.Native.Nat.{_+_, _/_, _≤_, _<_, min};
-ghost use lib.ListN.{length};
-ghost use Rattle.table.specs.Slots.{put, loaded, originAt, byteAt, Looked};
-ghost use Rattle.table.specs.Looks.{EqualRun, AgreesAt, Tells};
+ghost use Prim.Native.Nat.{_+_, _-_, _/_, _≤_, min};
+ghost use lib.ListN.{length, take, drop};
+ghost use Rattle.table.specs.Slots.{put, loaded, originAt, byteAt};
+ghost use Rattle.table.specs.Looks.{firstUnequal, comparisonEnd, look};
+
+// What a look through the records hands back.
+pub struct Look {
+    // whether a record has the standing
+    pub found: bool,
+    // the number of the first that has; if none has: the number that a further record gets
+    pub number: usize,
+    // how many records were compared
+    pub compared: usize,
+}
 
 // Puts a record into slot k, if the table has it.
 pub fn store(table: &mut [u8], k: usize, v: &[u8; 64])
@@ -38,46 +48,54 @@ pub fn load(table: &[u8], k: usize) -> [u8; 64]
     v
 }
 
-// Whether the slot that begins at `at` has the bytes of v from `from` up to `to`.
-fn equal_run(table: &[u8], at: usize, v: &[u8; 64], from: usize, to: usize) -> bool
-    requires { ⌜ (at + 64 ≤ length (now table)) × (to ≤ 64) ⌝ }
-    ensures { λ r. ⌜ Tells (EqualRun (now (table .entry)) at (now (v .entry)) from to) r ⌝ }
+// The place of the first byte from `from` up to `to` in which the slot that begins at `at` and v differ; `to` if there is none.
+fn first_unequal(table: &[u8], at: usize, v: &[u8; 64], from: usize, to: usize) -> usize
+    requires { ⌜ (at + 64 ≤ length (now table)) × (from ≤ to) × (to ≤ 64) ⌝ }
+    ensures { λ r. ⌜ r ≡ firstUnequal (to - from) from (take 64 (drop at (now (table .entry)))) (now (v .entry)) ⌝ }
 {
     let mut i = from;
     while i < to {
         if table[at + i] != v[i] {
-            return false;
+            return i;
         }
         i += 1;
     }
-    true
+    i
 }
 
-// Whether the slot that begins at `at` has the standing of v: the origin fields, bytes 10 to 12, may differ.
-fn agrees(table: &[u8], at: usize, v: &[u8; 64]) -> bool
+// Where the comparison of the slot that begins at `at` with v ends: the origin fields, bytes 10 to 12, may differ.
+fn comparison_end(table: &[u8], at: usize, v: &[u8; 64]) -> usize
     requires { ⌜ at + 64 ≤ length (now table) ⌝ }
-    ensures { λ r. ⌜ Tells (AgreesAt (now (table .entry)) at (now (v .entry))) r ⌝ }
+    ensures { λ r. ⌜ r ≡ comparisonEnd (take 64 (drop at (now (table .entry)))) (now (v .entry)) ⌝ }
 {
-    if equal_run(table, at, v, 0, 10) {
-        return equal_run(table, at, v, 13, words::length_of(v));
+    let front = first_unequal(table, at, v, 0, 10);
+    if front < 10 {
+        return front;
     }
-    false
+    first_unequal(table, at, v, 13, words::length_of(v))
 }
 
-// The first of n slots whose record has the standing of v, looked for from slot 0 upwards; n, if none has.
-// No more slots are looked at than there are.
-pub fn find(table: &[u8], n: usize, v: &[u8; 64]) -> usize
-    ensures looked { λ r. ⌜ Looked (now (table .entry)) (min n (length (now (table .entry)) / 64)) (now (v .entry)) r ⌝ }
+// Looks through n records, from record 0 upwards, for the first that has the standing of v. No more are looked at than there are slots.
+pub fn find(table: &[u8], n: usize, v: &[u8; 64]) -> Look
+    ensures looked { λ r. ⌜ r ≡ look (now (table .entry)) (min n (length (now (table .entry)) / 64)) (now (v .entry)) ⌝ }
 {
     let end = words::least(n, table.len() / 64);
     let mut k = 0;
     while k < end {
-        if agrees(table, 64 * k, v) {
-            return k;
+        if comparison_end(table, 64 * k, v) == 64 {
+            return Look {
+                found: true,
+                number: k,
+                compared: k + 1,
+            };
         }
         k += 1;
     }
-    k
+    Look {
+        found: false,
+        number: k,
+        compared: k,
+    }
 }
 
 // The number of the record that slot k's comes from.

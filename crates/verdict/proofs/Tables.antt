@@ -14,7 +14,7 @@ use Rattle.theory.specs.Pattern.{Re}
 use Rattle.theory.specs.Standing.{Standing, standing}
 use Rattle.theory.specs.Records.{at, Records}
 use Rattle.theory.specs.Lines.{_≺_}
-use Rattle.theory.proofs.Tests.{T-true, not-true}
+use Rattle.theory.proofs.Tests.{T-true, not-true, and-split}
 use Rattle.theory.proofs.Lines.{below-left}
 use Rattle.verdict.specs.Bits.{bits, bit, pack}
 use Rattle.verdict.specs.Record.{sixBits, recordBits, recordBytes}
@@ -71,17 +71,13 @@ pub onto-length : (t u : List ℕ) → length u ≤ length t → length (onto t 
 onto-length t u h = omega (arith, length-append u (drop (length u) t), length-drop (length u) t)
 
 -- `same` is equality.
-and-split : (a b : Bool) → T (a && b) → T a × T b
-and-split true b t = (tt, t)
-and-split false b t = absurd t
-
-sameList-eq : (l m : List ℕ) → T (sameList l m) → l ≡ m
+pub sameList-eq : (l m : List ℕ) → T (sameList l m) → l ≡ m
 sameList-eq [] [] t = refl
 sameList-eq [] (b ∷ m) t = absurd t
 sameList-eq (a ∷ l) [] t = absurd t
 sameList-eq (a ∷ l) (b ∷ m) t = let c = and-split (eqb a b) (sameList l m) t in ap₂ _∷_ (eqb→eq a b (c .0)) (sameList-eq l m (c .1))
 
-sameList-refl : (l : List ℕ) → sameList l l ≡ true
+pub sameList-refl : (l : List ℕ) → sameList l l ≡ true
 sameList-refl [] = refl
 sameList-refl (a ∷ l) = rw (T-true (eqb a a) (eqb-refl a), sameList-refl l)
 

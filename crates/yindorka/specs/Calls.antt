@@ -24,11 +24,14 @@ use Rattle.screen.specs.Shows.{Shows, Rewrites}
 use Rattle.checker.specs.declared.Verdict.{Verdict}
 use Rattle.checker.specs.declared.Verdict.the-variants.{Alike, Unlike}
 use Rattle.checker.specs.declared.Verdict.the-variants as Verdicts
+use Rattle.checker.specs.declared.Report.{Report}
 use Rattle.checker.specs.Verdicts.{Checks}
+use Rattle.checker.specs.Looking.{Reports}
 use Rattle.yindorka.specs.declared.Refusal.{Refusal}
 use Rattle.yindorka.specs.declared.Counted.{Counted}
 use Rattle.yindorka.specs.declared.Spanned.{Spanned}
 use Rattle.yindorka.specs.declared.Outcome.{Outcome}
+use Rattle.yindorka.specs.declared.Looking.{Looking}
 
 -- Number 0: the pattern is accepted. Else it is refused with number and place.
 abbrev pub refusalOf : Answer → Refusal
@@ -96,3 +99,14 @@ pub record Decided (p t v : List ℕ) (x : Outcome) (t′ v′ : List ℕ) : Typ
   pub verdict : Verdict
   pub checks : Checks p t v verdict t′ v′
   pub means : x ≡ outcomeOf verdict
+
+-- The same with the looking.
+abbrev pub lookingOf : Report → Looking
+lookingOf x =
+    let y = outcomeOf (x .verdict) in
+    record { kind = y .kind; first = y .first; second = y .second; looks = x .looking .looks; comparisons = x .looking .comparisons }
+
+pub record Told (p t v : List ℕ) (x : Looking) (t′ v′ : List ℕ) : Type 0 where
+  pub report : Report
+  pub reports : Reports p t v report t′ v′
+  pub means : x ≡ lookingOf report

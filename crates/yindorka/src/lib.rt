@@ -3,7 +3,7 @@
 ghost use mathlib.Core.Path.{_≡_};
 ghost use Rattle.matchers.specs.Tables.{tables};
 ghost use Rattle.fields.specs.Cuts.{lent};
-ghost use Rattle.yindorka.specs.Calls.{refusalOf, countedOf, Prepares, Cuts, PreparesFields, CutsFields, ShowsGroups, RewritesLine, Decided, outcomeOf};
+ghost use Rattle.yindorka.specs.Calls.{refusalOf, countedOf, Prepares, Cuts, PreparesFields, CutsFields, ShowsGroups, RewritesLine, Decided, outcomeOf, Told};
 use checker::Verdict;
 use matchers::Spans;
 use reader::Answer;
@@ -38,6 +38,16 @@ pub struct Outcome {
     pub kind: usize,
     pub first: usize,
     pub second: usize,
+}
+
+// The same, with how many looks through the records the check took, and how many records they compared.
+#[repr(C)]
+pub struct Looking {
+    pub kind: usize,
+    pub first: usize,
+    pub second: usize,
+    pub looks: usize,
+    pub comparisons: usize,
 }
 
 fn refusal_of(x: Answer) -> Refusal
@@ -224,10 +234,32 @@ pub extern "C" fn yindorka_check(pattern: &[u8], table: &mut [u8], witness: &mut
     numbers_of(checker::check(pattern, table, witness))
 }
 
-// The version of the library: 10300 is 1.3.0.
+// The same, with how much looking through the records it took.
+#[no_mangle]
+pub extern "C" fn yindorka_check_looking(
+    pattern: &[u8],
+    table: &mut [u8],
+    witness: &mut [u8],
+) -> Looking
+    ensures reported { λ r. ⌜ Told (now (pattern .entry)) (now (table .entry)) (now (witness .entry)) r (now (table .exit)) (now (witness .exit)) ⌝ }
+{
+    let report = checker::check_looking(pattern, table, witness);
+    let looking = report.looking;
+    let verdict = report.verdict;
+    let outcome = numbers_of(verdict);
+    Looking {
+        kind: outcome.kind,
+        first: outcome.first,
+        second: outcome.second,
+        looks: looking.looks,
+        comparisons: looking.comparisons,
+    }
+}
+
+// The version of the library: 10400 is 1.4.0.
 #[no_mangle]
 pub extern "C" fn yindorka_version() -> u32
-    ensures version { λ r. ⌜ r ≡ 10300 ⌝ }
+    ensures version { λ r. ⌜ r ≡ 10400 ⌝ }
 {
-    10300
+    10400
 }

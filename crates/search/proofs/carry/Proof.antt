@@ -11,42 +11,48 @@ use Rattle.search.proofs.carry.Tie as tie
 
 returns : tie.Need-returns
 returns c =
-    let x = c .before .before .before .before .before .next in
-    let v = c .before .before .before .before .pack in
-    let k = c .before .find in
-    carry-known (x .ensures) (v .ensures) (k .ensures) (omega arith)
+    let y = c .before .one-more in
+    let x = c .before .before .find in
+    let v = c .before .before .before .before .before in
+    carry-known (v .before .next .ensures) (v .pack .ensures) (x .ensures) (y .ensures) (c .if1 .taken)
 
 returns-2 : tie.Need-returns-2
 returns-2 c =
-    let x = c .before .before .before .before .before .before .next in
-    let v = c .before .before .before .before .before .pack in
-    let k = c .before .before .find in
-    carry-full (x .ensures) (v .ensures) (k .ensures) (omega arith) (omega arith)
+    let y = c .before .before in
+    let v = y .before .before .before .before in
+    carry-full (v .before .next .ensures) (v .pack .ensures) (y .before .find .ensures) (y .one-more .ensures) (c .before .if1 .left) (omega arith)
 
 same-length-3 : tie.Need-same-length-3
-same-length-3 c = ap length (c .before .before .before .before .store .ensures) ∙ put-length (c .before .before .before .before .before .before .before .before .before .before .before .before .before .before .before .args .table .now) _ (c .before .before .before .before .before .before .before .before .before .before .before .before .pack .result)
+same-length-3 c =
+    let s = c .before .before .before .before in
+    let v = s .before .before .before .before .before .before .before .before .before in
+    ap length (s .store .ensures) ∙ put-length (v .before .before .before .args .table .now) _ (v .pack .result)
 
 returns-3 : tie.Need-returns-3
 returns-3 c =
-    let x = c .before .before .before .before .before .before .before .before .before .before .before .before .before .next in
-    let v = c .before .before .before .before .before .before .before .before .before .before .before .before .pack in
-    let k = c .before .before .before .before .before .before .before .before .before .find in
-    carry-witness (x .ensures) (v .ensures) (k .ensures) (omega arith) (omega arith) (c .before .before .before .before .store .ensures) (sym (c .before .is-witness .ensures) ∙ c .if3 .taken)
+    let s = c .before .before .before .before in
+    let y = s .before .before .before .before .before in
+    let v = y .before .before .before .before in
+    carry-witness (v .before .next .ensures) (v .pack .ensures) (y .before .find .ensures) (y .one-more .ensures) (s .before .before .before .before .if1 .left) (omega arith) (s .store .ensures) (sym (c .before .is-witness .ensures) ∙ c .if3 .taken)
 
 same-length-4 : tie.Need-same-length-4
-same-length-4 c = ap length (c .before .before .before .before .store .ensures) ∙ put-length (c .before .before .before .before .before .before .before .before .before .before .before .before .before .before .before .args .table .now) _ (c .before .before .before .before .before .before .before .before .before .before .before .before .pack .result)
+same-length-4 c =
+    let s = c .before .before .before .before in
+    let v = s .before .before .before .before .before .before .before .before .before in
+    ap length (s .store .ensures) ∙ put-length (v .before .before .before .args .table .now) _ (v .pack .result)
 
 returns-4 : tie.Need-returns-4
 returns-4 c =
-    let x = c .before .before .before .before .before .before .before .before .before .before .before .before .before .next in
-    let v = c .before .before .before .before .before .before .before .before .before .before .before .before .pack in
-    let k = c .before .before .before .before .before .before .before .before .before .find in
-    carry-new (x .ensures) (v .ensures) (k .ensures) (omega arith) (omega arith) (c .before .before .before .before .store .ensures) (sym (c .before .is-witness .ensures) ∙ c .if3 .left)
+    let s = c .before .before .before .before in
+    let y = s .before .before .before .before .before in
+    let v = y .before .before .before .before in
+    carry-new (v .before .next .ensures) (v .pack .ensures) (y .before .find .ensures) (y .one-more .ensures) (s .before .before .before .before .if1 .left) (omega arith) (s .store .ensures) (sym (c .before .is-witness .ensures) ∙ c .if3 .left)
 
 pub carry-spec : {M : Type 1} → statement M
 carry-spec =
     tie.close
     (tie.spec
+    (λ c κs. search needs)
     (λ c κs. search needs)
     (λ c κs. search needs)
     (λ c κs. search needs)

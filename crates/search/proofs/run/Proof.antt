@@ -10,27 +10,30 @@ use Rattle.search.proofs.run.Statement.{statement}
 use Rattle.search.proofs.run.Tie as tie
 
 abbrev Inv-loop : tie.InvT-loop
-Inv-loop table₀ slots lowest count masks rows lens sets ends n₀ q₀ table n q = AtRecord (arrays masks rows lens sets ends) (Grouping masks lowest count) slots table₀ q n table
+Inv-loop table₀ slots lowest count masks rows lens sets ends n₀ looking₀ q₀ table n looking q =
+    AtRecord (arrays masks rows lens sets ends) (Grouping masks lowest count) slots table₀ q n looking table
 
 abbrev μ-loop : tie.MeasureT-loop
-μ-loop table₀ slots lowest count masks rows lens sets ends n₀ q₀ table n q = slots - q
+μ-loop table₀ slots lowest count masks rows lens sets ends n₀ looking₀ q₀ table n looking q = slots - q
 
 loop-holds : tie.Need-loop-holds Inv-loop μ-loop
 loop-holds c = record-start (c .before .pre .0)
 
 returns : tie.Need-returns Inv-loop μ-loop
 returns c =
-    record-stop (omega arith) (c .before .before .before .before .before .before .loop .inv) (c .before .before .before .work .ensures) (not-clear (c .match .keys2))
+    let x = c .before .before .before in
+    record-stop (omega arith) (x .before .before .before .loop .inv) (x .work .ensures) (not-clear (c .match .keys2))
 
 add-q : tie.Need-add-q Inv-loop μ-loop
-add-q c = let h = c .before .before .before .before .before .before .before .before .loop .inv .within in search needs
+add-q c = let h = c .before .before .before .before .before .before .before .before .before .loop .inv .within in search needs
 
 loop-less : tie.Need-loop-less Inv-loop μ-loop
-loop-less c = let h = c .before .before .before .before .before .before .before .before .loop .inv .within in omega arith
+loop-less c = let h = c .before .before .before .before .before .before .before .before .before .loop .inv .within in omega arith
 
 loop-again : tie.Need-loop-again Inv-loop μ-loop
 loop-again c =
-    record-step (omega arith) (search needs) (c .before .before .before .before .before .before .before .before .loop .inv) (c .before .before .before .before .before .work .ensures) (c .before .p .given .1)
+    let x = c .before .before .before .before .before .before in
+    record-step (omega arith) (x .before .before .before .loop .inv) (x .work .ensures) (search needs) (c .before .before .p .given .1)
 
 returns-2 : tie.Need-returns-2 Inv-loop μ-loop
 returns-2 c =

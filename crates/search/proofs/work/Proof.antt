@@ -9,10 +9,11 @@ use Rattle.search.proofs.work.Statement.{statement}
 use Rattle.search.proofs.work.Tie as tie
 
 abbrev Inv-loop : tie.InvT-loop
-Inv-loop table₀ q n slots lowest count masks rows lens sets ends s n₀ k₀ table n' k = AtGroup (arrays masks rows lens sets ends) lowest count q n slots table₀ s k n' table
+Inv-loop table₀ q n slots lowest count masks rows lens sets ends s n₀ looking₀ k₀ table n' looking' k =
+    AtGroup (arrays masks rows lens sets ends) lowest count q n slots looking₀ table₀ s k n' looking' table
 
 abbrev μ-loop : tie.MeasureT-loop
-μ-loop table₀ q n slots lowest count masks rows lens sets ends s n₀ k₀ table n' k = count - k
+μ-loop table₀ q n slots lowest count masks rows lens sets ends s n₀ looking₀ k₀ table n' looking' k = count - k
 
 loop-holds : tie.Need-loop-holds Inv-loop μ-loop
 loop-holds c =
@@ -20,11 +21,13 @@ loop-holds c =
 
 returns : tie.Need-returns Inv-loop μ-loop
 returns c =
-    group-stop (omega arith) (c .before .before .before .before .before .before .before .loop .inv) (c .before .before .before .carry .ensures) (not-clear (c .match .keys2))
+    let x = c .before .before .before in
+    group-stop (omega arith) (x .before .before .before .before .loop .inv) (x .carry .ensures) (not-clear (c .match .keys2))
 
 loop-again : tie.Need-loop-again Inv-loop μ-loop
 loop-again c =
-    group-step (omega arith) (c .before .before .before .before .before .before .before .before .before .loop .inv) (c .before .before .before .before .before .carry .ensures) (search needs) (c .before .p .given .1)
+    let x = c .before .before .before .before .before .before in
+    group-step (omega arith) (x .before .before .before .before .loop .inv) (x .carry .ensures) (search needs) (c .before .before .p .given .1)
 
 returns-2 : tie.Need-returns-2 Inv-loop μ-loop
 returns-2 c =

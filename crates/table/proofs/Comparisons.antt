@@ -1,0 +1,117 @@
+-- A comparison of two records: its end, byte by byte, and that it finds no unequal byte just where the records are equal before and after the origin fields.
+-- Assumes nothing.
+use mathlib.Core.Path.{_≡_, refl, sym, ap, ap₂, _∙_, subst}
+use Prim.Native.Nat.{ℕ, zero, suc, _+_, _-_, _≤_, _<_}
+use mathlib.Core.Bool.{true, false, cond}
+use mathlib.Core.List.{List}
+use native.Mathlib.Omega.{arith}
+use native.Mathlib.Decide.{ℕ-discrete, decLt}
+use borrow.Author.Tests.{eq-eqb, ne-eqb, lt-ltb, le-ltb, eqb-true}
+use lib.ListN.{length, getD, take, drop}
+use lib.Seq.{ext-getD, getD-take, getD-drop, take-all, slice, length-slice}
+use Rattle.table.specs.Looks.{firstUnequal, comparisonEnd, sameStanding}
+
+module _ (u v : List ℕ) where
+  -- An equal byte is passed, at an unequal one the comparison ends.
+  pub unequal-next : (n i : ℕ) → getD u i 0 ≡ getD v i 0 → firstUnequal (suc n) i u v ≡ firstUnequal n (suc i) u v
+  unfolding firstUnequal
+  unequal-next n i e = rw (eq-eqb (getD u i 0) (getD v i 0) e)
+
+  pub unequal-here : (n i : ℕ) → (getD u i 0 ≡ getD v i 0 → ⊥) → firstUnequal (suc n) i u v ≡ i
+  unfolding firstUnequal
+  unequal-here n i e = rw (ne-eqb (getD u i 0) (getD v i 0) e)
+
+  unequal-over : (i : ℕ) → firstUnequal 0 i u v ≡ i
+  unfolding firstUnequal
+  unequal-over i = refl
+
+  -- The same of the bytes from i up to `to`.
+  module _ (to i : ℕ) where
+    pub run-next : i < to → getD u i 0 ≡ getD v i 0 → firstUnequal (to - (i + 1)) (i + 1) u v ≡ firstUnequal (to - i) i u v
+    run-next l e =
+        let left : to - i ≡ suc (to - (i + 1)) = omega arith in
+        let next : i + 1 ≡ suc i = omega arith in
+        ap (λ k. firstUnequal (to - (i + 1)) k u v) next ∙ sym (unequal-next (to - (i + 1)) i e) ∙ ap (λ n. firstUnequal n i u v) (sym left)
+
+    pub run-here : i < to → (getD u i 0 ≡ getD v i 0 → ⊥) → i ≡ firstUnequal (to - i) i u v
+    run-here l e =
+        let left : to - i ≡ suc (to - (i + 1)) = omega arith in
+        sym (ap (λ n. firstUnequal n i u v) left ∙ unequal-here (to - (i + 1)) i e)
+
+    pub run-over : to ≤ i → i ≡ firstUnequal (to - i) i u v
+    run-over l = let none : to - i ≡ 0 = omega arith in sym (ap (λ n. firstUnequal n i u v) none ∙ unequal-over i)
+
+  -- The bytes before the end are equal,
+  pub unequal-before : (n i j : ℕ) → i ≤ j → j < firstUnequal n i u v → getD u j 0 ≡ getD v j 0
+  unequal-before zero i j h l = absurd (omega (arith, unequal-over i))
+  unequal-before (suc n) i j h l =
+      elim (ℕ-discrete (getD u i 0) (getD v i 0)) [
+        | yes e ↦ elim (ℕ-discrete i j) [
+          | yes f ↦ subst (λ k. getD u k 0 ≡ getD v k 0) f e
+          | no f ↦ unequal-before n (suc i) j (omega arith) (rw (unequal-next n i e) at l)
+        ]
+        | no e ↦ absurd (omega (arith, unequal-here n i e))
+      ]
+
+  -- which is the last if all are.
+  pub unequal-none : (n i : ℕ) → ((j : ℕ) → i ≤ j → j < i + n → getD u j 0 ≡ getD v j 0) → firstUnequal n i u v ≡ i + n
+  unequal-none zero i e = omega (arith, unequal-over i)
+  unequal-none (suc n) i e =
+      let more : firstUnequal n (suc i) u v ≡ suc i + n = unequal-none n (suc i) λ j h l. e j (omega arith) (omega arith) in
+      omega (arith, unequal-next n i (e i (omega arith) (omega arith)), more)
+
+  pub unequal-most : (n i : ℕ) → firstUnequal n i u v ≤ i + n
+  unequal-most zero i = omega (arith, unequal-over i)
+  unequal-most (suc n) i =
+      elim (ℕ-discrete (getD u i 0) (getD v i 0)) [
+        | yes e ↦ omega (arith, unequal-next n i e, unequal-most n (suc i))
+        | no e ↦ omega (arith, unequal-here n i e)
+      ]
+
+  -- A comparison ends before the origin fields, or after them.
+  pub ends-before : firstUnequal 10 0 u v < 10 → comparisonEnd u v ≡ firstUnequal 10 0 u v
+  unfolding comparisonEnd
+  ends-before h = rw (lt-ltb (firstUnequal 10 0 u v) 10 h)
+
+  pub ends-after : 10 ≤ firstUnequal 10 0 u v → comparisonEnd u v ≡ firstUnequal 51 13 u v
+  unfolding comparisonEnd
+  ends-after h = rw (le-ltb (firstUnequal 10 0 u v) 10 h)
+
+-- Parts of two lists are equal if their bytes are.
+getD-slice : (from to : ℕ) (x : List ℕ) (j : ℕ) → from + j < to → getD (slice from to x) j 0 ≡ getD x (from + j) 0
+getD-slice from to x j h = getD-drop from (take to x) j 0 ∙ getD-take to x (from + j) 0 h
+
+slice-same : (from to : ℕ) (x y : List ℕ) → to ≤ length x → to ≤ length y → ((i : ℕ) → from ≤ i → i < to → getD x i 0 ≡ getD y i 0) → slice from to x ≡ slice from to y
+slice-same from to x y h k e =
+    ext-getD 0 (slice from to x) (slice from to y) (length-slice from to x h ∙ sym (length-slice from to y k)) λ j l.
+    let b : from + j < to = omega (arith, length-slice from to x h) in
+    getD-slice from to x j b ∙ e (from + j) (omega arith) b ∙ sym (getD-slice from to y j b)
+
+-- OF THE SAME STANDING are two records that are equal outside the origin fields,
+module _ (u v : List ℕ) where
+  pub equal-same : take 10 u ≡ take 10 v → drop 13 u ≡ drop 13 v → sameStanding u v ≡ true
+  equal-same front back = eq-eqb (comparisonEnd u v) 64 (ends-after u v (omega (arith, low)) ∙ high)
+    where
+      low : firstUnequal 10 0 u v ≡ 10
+      low = unequal-none u v 10 0 λ j h l. sym (getD-take 10 u j 0 l) ∙ ap (λ z. getD z j 0) front ∙ getD-take 10 v j 0 l
+
+      high : firstUnequal 51 13 u v ≡ 64
+      high = unequal-none u v 51 13 λ j h l.
+          let e : 13 + (j - 13) ≡ j = omega arith in
+          rw e at (sym (getD-drop 13 u (j - 13) 0) ∙ ap (λ z. getD z (j - 13) 0) back ∙ getD-drop 13 v (j - 13) 0)
+
+  -- AND NO OTHERS.
+  pub same-equal : length u ≡ 64 → length v ≡ 64 → sameStanding u v ≡ true → (take 10 u ≡ take 10 v) × (drop 13 u ≡ drop 13 v)
+  same-equal long size e = (
+    slice-same 0 10 u v (omega arith) (omega arith) (λ i h l. unequal-before u v 10 0 i h (omega (arith, low))),
+    ap (drop 13) (sym (take-all 64 u (omega arith))) ∙ slice-same 13 64 u v (omega arith) (omega arith) (λ i h l. unequal-before u v 51 13 i h (omega (arith, high))) ∙ ap (drop 13) (take-all 64 v (omega arith)),
+  )
+    where
+      end : comparisonEnd u v ≡ 64
+      end = eqb-true (comparisonEnd u v) 64 e
+
+      low : 10 ≤ firstUnequal 10 0 u v
+      low = elim (decLt (firstUnequal 10 0 u v) 10) [ yes l ↦ absurd (omega (arith, end, ends-before u v l)) | no l ↦ omega arith ]
+
+      high : firstUnequal 51 13 u v ≡ 64
+      high = sym (ends-after u v low) ∙ end
