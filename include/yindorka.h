@@ -11,8 +11,7 @@
  * The stack is not proved. It was measured over some 25,000 patterns, the deepest and the heaviest among them, for 1.0.0, and for each version since over those that
  * took the most; tests/embedding holds it:
  * yindorka_check takes at most 180 KB, yindorka_prepare 180 KB, yindorka_cut 2 KB, yindorka_prepare_fields 180 KB, yindorka_cut_fields 20 KB, yindorka_groups 180 KB,
- * yindorka_readable 180 KB. The size of a line or a
- * table changes nothing in this.
+ * yindorka_readable 180 KB, yindorka_check_looking 180 KB. The size of a line or a table changes nothing in this.
  */
 #ifndef YINDORKA_H
 #define YINDORKA_H
@@ -21,8 +20,8 @@
 #include <stdint.h>
 
 /* The version of this header: 10,000 times the first number, 100 times the second, and the third. */
-#define YINDORKA_VERSION "1.3.0"
-#define YINDORKA_VERSION_NUMBER 10300
+#define YINDORKA_VERSION "1.4.0"
+#define YINDORKA_VERSION_NUMBER 10400
 
 #ifdef __cplusplus
 extern "C" {
@@ -111,6 +110,16 @@ typedef struct {
     size_t second;
 } yindorka_outcome;
 
+/* An outcome, and how much looking through the records it took. There is a look for each record's line carried on by the lowest byte of each group, until the verdict is
+ * reached. It compares the records that there are one by one, from record 0 on, up to the first of the same standing: that one's number plus 1, or all of them if none has
+ * the standing. looks is how many looks there were, comparisons how many records they compared in all; a number above SIZE_MAX would be SIZE_MAX. A refusal 1 to 8 takes
+ * none. */
+typedef struct {
+    yindorka_outcome outcome;
+    size_t looks;
+    size_t comparisons;
+} yindorka_looking;
+
 /* The functions as the library has them. yindorka_read, yindorka_spans, yindorka_read_fields and yindorka_fields below are easier to call. */
 yindorka_refusal yindorka_prepare(const uint8_t *pattern, size_t pattern_length, uint64_t masks[256], uint8_t rows[4225], uint8_t lens[65], uint64_t sets[65],
                                   uint8_t ends[65], uint64_t next[257], uint8_t hows[10]);
@@ -136,6 +145,9 @@ yindorka_refusal yindorka_readable(const uint8_t *pattern, size_t pattern_length
  * kind 1: the first line that is cut differently, at its start, the rest kept. A refusal 1 to 8 keeps both; 10: more records are needed than there are slots, all
  * slots hold records; 11: all records are written, but the witness is longer than its buffer. Buffers of any lengths, 0 included. */
 yindorka_outcome yindorka_check(const uint8_t *pattern, size_t pattern_length, uint8_t *table, size_t table_length, uint8_t *witness, size_t witness_length);
+
+/* The same, and how much looking it took. */
+yindorka_looking yindorka_check_looking(const uint8_t *pattern, size_t pattern_length, uint8_t *table, size_t table_length, uint8_t *witness, size_t witness_length);
 
 /* Reads a pattern and fills its tables, which then serve any number of lines. A refused pattern leaves them as they are. */
 static inline yindorka_refusal yindorka_read(const uint8_t *pattern, size_t length, yindorka_tables *t)

@@ -5,6 +5,8 @@
 // 'check PATTERN TABLE WITNESS' calls the checker, with how many bytes of table and witness buffer are lent. Before the call every byte of the table is aa and every byte of the witness buffer bb, and guard bytes stand before
 // and behind both. Prints for each call, on one line, the result as the checker program has it, then the table and the witness buffer in hex ('-' if one is empty),
 // each after ' : ', and ' : guard bytes changed' if some are.
+// 'looking PATTERN TABLE WITNESS' calls it with how much looking it takes: prints 'looks LOOKS comparisons COMPARISONS' and the result, and ' : not as yindorka_check' if the
+// outcome or a byte of the buffers is another than that call's.
 #include <stdio.h>
 #include <stdlib.h>
 #include <string.h>
@@ -202,6 +204,31 @@ static int check(char *pattern_hex, const char *table_length, const char *witnes
     return 1;
 }
 
+static int equal_buffers(buffer a, buffer b)
+{
+    return a.length == b.length && memcmp(a.at, b.at, a.length) == 0 && guards_kept(a) && guards_kept(b);
+}
+
+static int looking(char *pattern_hex, const char *table_length, const char *witness_length)
+{
+    uint8_t *pattern = room(strlen(pattern_hex) + 1);
+    size_t length = read_hex(pattern_hex, pattern), t = strtoul(table_length, NULL, 10), w = strtoul(witness_length, NULL, 10);
+    buffer table = lend(t, TABLE_BYTE), witness = lend(w, WITNESS_BYTE), other_table = lend(t, TABLE_BYTE), other_witness = lend(w, WITNESS_BYTE);
+    yindorka_looking x = yindorka_check_looking(pattern, length, table.at, t, witness.at, w);
+    yindorka_outcome y = yindorka_check(pattern, length, other_table.at, t, other_witness.at, w);
+    int same = x.outcome.kind == y.kind && x.outcome.first == y.first && x.outcome.second == y.second;
+
+    printf("looks %zu comparisons %zu ", x.looks, x.comparisons);
+    print_result(x.outcome, witness);
+    puts(same && equal_buffers(table, other_table) && equal_buffers(witness, other_witness) ? "" : " : not as yindorka_check");
+    give_back(table);
+    give_back(witness);
+    give_back(other_table);
+    give_back(other_witness);
+    free(pattern);
+    return 1;
+}
+
 static int fields(char *pattern_hex, char *line_hex)
 {
     uint8_t *pattern = room(strlen(pattern_hex) + 1), *line = room(strlen(line_hex) + 1);
@@ -223,7 +250,9 @@ static int call_named(const char *what, char *first, char *second, const char *t
         return fields(first, second);
     if (strcmp(what, "readable") == 0)
         return readable(first, second);
-    return third && check(first, second, third);
+    if (!third)
+        return 0;
+    return strcmp(what, "looking") == 0 ? looking(first, second, third) : check(first, second, third);
 }
 
 int main(void)

@@ -3,7 +3,7 @@
 // refused pattern prints its refusal only.
 // 'groups' on a line of its own: each further line is a pattern; for each the number of each byte's group (request 3), or its refusal.
 // 'looking' on a line of its own: each further line is a pattern; for each how much looking its check took (request 4), and then what `explain_patterns` prints:
-// 'looks 8 comparisons 14 unlike 4 6162 greedy 0 1 posix 0 2 readable 6162'.
+// 'looks 9 comparisons 18 unlike 4 6162 greedy 0 1 posix 0 2 readable 6162'.
 // Another word prints 'unknown'. Lines may have any length; input and output go by chunks, so memory stays the same. What is known is printed before more is read.
 // A failed read or write ends the program with a line on standard error.
 ghost use mathlib.Core.Path.{_≡_};

@@ -4,3 +4,4 @@ mod Origins
 mod Decides
 -- Demands 1 and 3 in their words.
 pub mod Demand
+pub mod Looked

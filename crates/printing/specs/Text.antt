@@ -109,7 +109,7 @@ pub record ExplainedLine (count : ℕ) (witness : List ℕ) (start greedy posix 
   pub cut : SpansLine start greedy posix (spans ++ (10 ∷ []))
   pub text : w ≡ verdict ++ (32 ∷ (spans ++ ((32 ∷ 114 ∷ 101 ∷ 97 ∷ 100 ∷ 97 ∷ 98 ∷ 108 ∷ 101 ∷ 32 ∷ []) ++ (hex readable ++ (10 ∷ [])))))
 
--- "looks 8 comparisons 14 ": how much looking a check took (request 4), before the verdict's line.
+-- "looks 9 comparisons 18 ": how much looking a check took (request 4), before the verdict's line.
 pub record LookingText (looks comparisons : ℕ) (w : List ℕ) : Type 0 where
   pub first : List ℕ
   pub second : List ℕ

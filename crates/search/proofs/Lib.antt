@@ -2,6 +2,7 @@
 pub mod Looks
 -- How much looking it takes.
 pub mod Tallies
+pub mod Totals
 -- One turn of the search, case by case.
 mod Turns
 mod Carries
