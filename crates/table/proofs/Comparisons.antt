@@ -1,6 +1,7 @@
 -- A comparison of two records: its end, byte by byte, and that it finds no unequal byte just where the records are equal before and after the origin fields.
 -- Assumes nothing.
 use mathlib.Core.Path.{_≡_, refl, sym, ap, ap₂, _∙_, subst}
+use mathlib.Core.Logic.{_⊎_, inl, inr}
 use Prim.Native.Nat.{ℕ, zero, suc, _+_, _-_, _≤_, _<_}
 use mathlib.Core.Bool.{true, false, cond}
 use mathlib.Core.List.{List}
@@ -9,7 +10,8 @@ use native.Mathlib.Decide.{ℕ-discrete, decLt}
 use borrow.Author.Tests.{eq-eqb, ne-eqb, lt-ltb, le-ltb, eqb-true}
 use lib.ListN.{length, getD, take, drop}
 use lib.Seq.{ext-getD, getD-take, getD-drop, take-all, slice, length-slice}
-use Rattle.table.specs.Looks.{firstUnequal, comparisonEnd, sameStanding}
+use Rattle.theory.proofs.Tests.{either}
+use Rattle.table.specs.Looks.{firstUnequal, comparisonEnd, bytesCompared, sameStanding}
 
 module _ (u v : List ℕ) where
   -- An equal byte is passed, at an unequal one the comparison ends.
@@ -68,6 +70,14 @@ module _ (u v : List ℕ) where
         | no e ↦ omega (arith, unequal-here n i e)
       ]
 
+  pub unequal-least : (n i : ℕ) → i ≤ firstUnequal n i u v
+  unequal-least zero i = omega (arith, unequal-over i)
+  unequal-least (suc n) i =
+      elim (ℕ-discrete (getD u i 0) (getD v i 0)) [
+        | yes e ↦ omega (arith, unequal-next n i e, unequal-least n (suc i))
+        | no e ↦ omega (arith, unequal-here n i e)
+      ]
+
   -- A comparison ends before the origin fields, or after them.
   pub ends-before : firstUnequal 10 0 u v < 10 → comparisonEnd u v ≡ firstUnequal 10 0 u v
   unfolding comparisonEnd
@@ -76,6 +86,53 @@ module _ (u v : List ℕ) where
   pub ends-after : 10 ≤ firstUnequal 10 0 u v → comparisonEnd u v ≡ firstUnequal 51 13 u v
   unfolding comparisonEnd
   ends-after h = rw (le-ltb (firstUnequal 10 0 u v) 10 h)
+
+module _ (u v : List ℕ) where
+  -- A COMPARISON ENDS OUTSIDE THE ORIGIN FIELDS, having looked at 61 bytes at most.
+  pub end-outside : (comparisonEnd u v < 10) ⊎ ((13 ≤ comparisonEnd u v) × (comparisonEnd u v ≤ 64))
+  end-outside =
+      elim (decLt (firstUnequal 10 0 u v) 10) [
+        | yes l ↦ inl (omega (arith, ends-before u v l))
+        | no l ↦ inr (omega (arith, ends-after u v (omega arith), unequal-least u v 51 13), omega (arith, ends-after u v (omega arith), unequal-most u v 51 13))
+      ]
+
+  pub bytes-most : bytesCompared (comparisonEnd u v) ≤ 61
+  bytes-most = either (λ l. rw (lt-ltb (comparisonEnd u v) 10 l) (omega arith)) (λ h. rw (le-ltb (comparisonEnd u v) 10 (omega (arith, h .0))) (omega arith)) end-outside
+
+module _ (u v x y : List ℕ) where
+  run-same : (n i : ℕ) → ((j : ℕ) → i ≤ j → j < i + n → j ≤ firstUnequal n i u v → (getD u j 0 ≡ getD x j 0) × (getD v j 0 ≡ getD y j 0)) → firstUnequal n i x y ≡ firstUnequal n i u v
+  run-same zero i same = unequal-over x y i ∙ sym (unequal-over u v i)
+  run-same (suc n) i same =
+      elim (ℕ-discrete (getD u i 0) (getD v i 0)) [
+        | yes e ↦ (
+            let next = unequal-next u v n i e in
+            let (a, b) = same i (omega arith) (omega arith) (omega (arith, next, unequal-least u v n (suc i))) in
+            unequal-next x y n i (sym a ∙ e ∙ b) ∙ run-same n (suc i) (λ j h l m. same j (omega arith) (omega arith) (omega (arith, next))) ∙ sym next
+            )
+        | no e ↦ (
+            let here = unequal-here u v n i e in
+            let (a, b) = same i (omega arith) (omega arith) (omega (arith, here)) in
+            unequal-here x y n i (λ f. e (a ∙ f ∙ sym b)) ∙ sym here
+            )
+      ]
+
+  -- NO OTHER BYTE COUNTS: records that have the same bytes up to the end, outside the origin fields, have the same end.
+  pub end-same : ((j : ℕ) → (j < 10) ⊎ (13 ≤ j) → j ≤ comparisonEnd u v → (getD u j 0 ≡ getD x j 0) × (getD v j 0 ≡ getD y j 0)) → comparisonEnd x y ≡ comparisonEnd u v
+  end-same same =
+      elim (decLt (firstUnequal 10 0 u v) 10) [
+        | yes l ↦ (
+            let e : comparisonEnd u v ≡ firstUnequal 10 0 u v = ends-before u v l in
+            let low : firstUnequal 10 0 x y ≡ firstUnequal 10 0 u v = run-same 10 0 (λ j h i m. same j (inl (omega arith)) (omega arith)) in
+            ends-before x y (omega arith) ∙ low ∙ sym e
+            )
+        | no l ↦ (
+            let e : comparisonEnd u v ≡ firstUnequal 51 13 u v = ends-after u v (omega arith) in
+            let after : 13 ≤ firstUnequal 51 13 u v = unequal-least u v 51 13 in
+            let low : firstUnequal 10 0 x y ≡ firstUnequal 10 0 u v = run-same 10 0 (λ j h i m. same j (inl (omega arith)) (omega arith)) in
+            let high : firstUnequal 51 13 x y ≡ firstUnequal 51 13 u v = run-same 51 13 (λ j h i m. same j (inr h) (omega arith)) in
+            ends-after x y (omega arith) ∙ high ∙ sym e
+            )
+      ]
 
 -- Parts of two lists are equal if their bytes are.
 getD-slice : (from to : ℕ) (x : List ℕ) (j : ℕ) → from + j < to → getD (slice from to x) j 0 ≡ getD x (from + j) 0
@@ -87,8 +144,8 @@ slice-same from to x y h k e =
     let b : from + j < to = omega (arith, length-slice from to x h) in
     getD-slice from to x j b ∙ e (from + j) (omega arith) b ∙ sym (getD-slice from to y j b)
 
--- OF THE SAME STANDING are two records that are equal outside the origin fields,
 module _ (u v : List ℕ) where
+  -- OF THE SAME STANDING are two records that are equal outside the origin fields,
   pub equal-same : take 10 u ≡ take 10 v → drop 13 u ≡ drop 13 v → sameStanding u v ≡ true
   equal-same front back = eq-eqb (comparisonEnd u v) 64 (ends-after u v (omega (arith, low)) ∙ high)
     where
