@@ -3,7 +3,7 @@
 use mathlib.Core.Path.{_≡_, sym, ap, _∙_, subst}
 use mathlib.Core.Logic.{_≢_}
 use Prim.Native.Nat.{ℕ, suc, _+_, _*_, _/_, _≤_, _<_, min}
-use mathlib.Core.Bool.{true, false, true≢false, not, _&&_}
+use mathlib.Core.Bool.{Bool, true, false, true≢false, not, _&&_, cond}
 use mathlib.Core.List.{List}
 use native.Mathlib.Omega.{arith}
 use lib.ListN.{length}
@@ -23,6 +23,7 @@ use Rattle.table.specs.Slots.{put}
 use Rattle.table.specs.Looks.{look}
 use Rattle.table.specs.declared.Look.{Look}
 use Rattle.table.proofs.Laws.{slot-there}
+use Rattle.search.specs.declared.Progress.{Progress}
 use Rattle.search.specs.declared.Progress.the-variants.{Clear, Witness, Full}
 use Rattle.search.specs.declared.Looking.{Looking}
 use Rattle.search.specs.Looking.{Takes}
@@ -77,7 +78,7 @@ module _ {a : Arrays} {s after : Standing} {q c n : ℕ} {y z : Looking} {t v : 
           ∙ slot-there t n _ t (omega (arith, same-length r (w .state .holds), slots-fit (length t₀)))
           ∙ ap (stores t (64 * n)) (recorded l w)
 
-      pub carry-new : (after .some && not (after .first)) ≡ false → Turned a s q c n m y t (record { progress = Clear (n + 1); looking = z }) t′
+      carry-new : (after .some && not (after .first)) ≡ false → Turned a s q c n m y t (record { progress = Clear (n + 1); looking = z }) t′
       carry-new f = record {
         within = λ i. omega arith;
         leads = λ {r} {t₀} l e byte lowest w.
@@ -87,7 +88,7 @@ module _ {a : Arrays} {s after : Standing} {q c n : ℕ} {y z : Looking} {t v : 
             (new-turn (l .numbered) w byte lowest (none l w .0) (omega arith) (written l e w) (λ i. true≢false (sym (T-true _ i) ∙ shows l w ∙ f))));
       }
 
-      pub carry-witness : (after .some && not (after .first)) ≡ true → Turned a s q c n m y t (record { progress = Witness (n + 1); looking = z }) t′
+      carry-witness : (after .some && not (after .first)) ≡ true → Turned a s q c n m y t (record { progress = Witness (n + 1); looking = z }) t′
       carry-witness f = record {
         within = tt;
         leads = λ {r} {t₀} l e byte lowest w.
@@ -96,3 +97,7 @@ module _ {a : Arrays} {s after : Standing} {q c n : ℕ} {y z : Looking} {t v : 
             (subst (λ k. WitnessFound r t₀ k t′ × Takes r (slots (length t₀)) (more y n)) more-records
             (witness-turn (l .numbered) w byte lowest (none l w .0) (omega arith) (written l e w) (true-T _ (shows l w ∙ f))));
       }
+
+      pub carry-entered : (w : Bool) {p : Progress} → w ≡ (after .some && not (after .first)) → p ≡ cond w (Witness (n + 1)) (Clear (n + 1)) → Turned a s q c n m y t (record { progress = p; looking = z }) t′
+      carry-entered true e f = subst (λ p. Turned a s q c n m y t (record { progress = p; looking = z }) t′) (sym f) (carry-witness (sym e))
+      carry-entered false e f = subst (λ p. Turned a s q c n m y t (record { progress = p; looking = z }) t′) (sym f) (carry-new (sym e))

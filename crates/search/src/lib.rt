@@ -1,10 +1,11 @@
 // The search through a pattern's standings. The table is the queue: each record in turn is carried on by the lowest byte of each group, upwards, and a standing that no record has gets the next slot.
 // It ends when no record is left, at the first witness, or when a record is needed and no slot is left.
 ghost use mathlib.Core.Path.{_≡_};
-ghost use mathlib.Core.Bool.{not, _&&_};
+ghost use mathlib.Core.Bool.{not, _&&_, cond};
 ghost use Prim.Native.Nat.{_+_, _≤_, _<_};
 ghost use Rattle.verdict.specs.Table.{slots};
 ghost use Rattle.standing.specs.Stands.{arrays};
+ghost use Rattle.search.specs.declared.Progress.the-variants.{Clear, Witness};
 ghost use Rattle.search.specs.Ends.{Searched};
 ghost use Rattle.search.specs.Looking.{saturated};
 ghost use Rattle.search.specs.Turns.{more, Turned, Grouping, Worked, Run};
@@ -64,6 +65,16 @@ fn one_more(x: Looking, n: usize) -> Looking
     }
 }
 
+// A record more, now n, and whether it is the witness's.
+fn entered(n: usize, witness: bool) -> Progress
+    ensures { λ r. ⌜ r ≡ cond witness (Witness n) (Clear n) ⌝ }
+{
+    if witness {
+        return Progress::Witness(n);
+    }
+    Progress::Clear(n)
+}
+
 // Record q, whose standing is s, carried on by the byte c. The table has n records, and so many slots.
 fn carry<'a>(
     table: &mut [u8],
@@ -98,14 +109,9 @@ fn carry<'a>(
         };
     }
     table::store(table, n, &v);
-    if is_witness(after.first, after.some) {
-        return Course {
-            progress: Progress::Witness(n + 1),
-            looking,
-        };
-    }
+    let witness = is_witness(after.first, after.some);
     Course {
-        progress: Progress::Clear(n + 1),
+        progress: entered(n + 1, witness),
         looking,
     }
 }

@@ -1,11 +1,11 @@
 -- `search::carry` meets its contract: at each `return` the tests that led there say which case of a turn it is.
 -- Assumes nothing.
-use mathlib.Core.Path.{sym, ap, _∙_}
+use mathlib.Core.Path.{ap, _∙_}
 use borrow.Author.Needs.{needs}
 use native.Mathlib.Omega.{arith}
 use lib.ListN.{length}
 use Rattle.table.proofs.Laws.{put-length}
-use Rattle.search.proofs.Carries.{carry-known, carry-full, carry-new, carry-witness}
+use Rattle.search.proofs.Carries.{carry-known, carry-full, carry-entered}
 use Rattle.search.proofs.carry.Statement.{statement}
 use Rattle.search.proofs.carry.Tie as tie
 
@@ -33,20 +33,8 @@ returns-3 c =
     let s = c .before .before .before .before in
     let y = s .before .before .before .before .before in
     let v = y .before .before .before .before in
-    carry-witness (v .before .next .ensures) (v .pack .ensures) (y .before .find .ensures) (y .one-more .ensures) (s .before .before .before .before .if1 .left) (omega arith) (s .store .ensures) (sym (c .before .is-witness .ensures) ∙ c .if3 .taken)
-
-same-length-4 : tie.Need-same-length-4
-same-length-4 c =
-    let s = c .before .before .before .before in
-    let v = s .before .before .before .before .before .before .before .before .before in
-    ap length (s .store .ensures) ∙ put-length (v .before .before .before .args .table .now) _ (v .pack .result)
-
-returns-4 : tie.Need-returns-4
-returns-4 c =
-    let s = c .before .before .before .before in
-    let y = s .before .before .before .before .before in
-    let v = y .before .before .before .before in
-    carry-new (v .before .next .ensures) (v .pack .ensures) (y .before .find .ensures) (y .one-more .ensures) (s .before .before .before .before .if1 .left) (omega arith) (s .store .ensures) (sym (c .before .is-witness .ensures) ∙ c .if3 .left)
+    let w = c .before .is-witness in
+    carry-entered (v .before .next .ensures) (v .pack .ensures) (y .before .find .ensures) (y .one-more .ensures) (s .before .before .before .before .if1 .left) (omega arith) (s .store .ensures) (w .result) (w .ensures) (c .entered .ensures)
 
 pub carry-spec : {M : Type 1} → statement M
 carry-spec =
@@ -63,8 +51,6 @@ carry-spec =
     (λ c κs. search needs)
     (λ c κs. search needs)
     (λ c. search needs)
+    (λ c κs. search needs)
     same-length-3
-    returns-3
-    (λ c. search needs)
-    same-length-4
-    returns-4)
+    returns-3)
