@@ -256,6 +256,17 @@ module _ (r : Re) where
 abbrev pub nextLine : List (List ℕ) → ℕ → ℕ → List ℕ
 nextLine M q c = at M q ++ (c ∷ [])
 
+-- The lines that are looked for where there is a slot: up to the witness, if there is one and the records have room, or to the line that there is no slot for.
+module _ (r : Re) (m : ℕ) (L : List (List ℕ)) (w : Option (List ℕ)) (some-slot : 0 < m) where
+  looked-until : lookedFor r m L w ≡ until (lastLine m L w) (carried (lowestBytes (shares r)) L)
+  looked-until = ap (λ b. cond b (until (lastLine m L w) (carried (lowestBytes (shares r)) L)) []) (lt-ltb 0 m some-slot)
+
+  pub looked-fitting : length L ≤ m → lookedFor r m L w ≡ until w (carried (lowestBytes (shares r)) L)
+  looked-fitting h = looked-until ∙ ap (λ b. until (cond b (some (at L m)) w) (carried (lowestBytes (shares r)) L)) (le-ltb m (length L) h)
+
+  looked-full : m < length L → lookedFor r m L w ≡ upTo (at L m) (carried (lowestBytes (shares r)) L)
+  looked-full h = looked-until ∙ ap (λ b. until (cond b (some (at L m)) w) (carried (lowestBytes (shares r)) L)) (lt-ltb m (length L) h)
+
 module _ (r : Re) (m : ℕ) where
   -- What the lines looked for took is what a search takes in which they are looked for.
   taken : {y : Looking} {L M W : List (List ℕ)} {w : Option (List ℕ)} → Needs (standing r) L w → W ≡ lookedFor r m L w → Tallied r W M y → Takes r m y
@@ -268,11 +279,7 @@ module _ (r : Re) (m : ℕ) where
   -- All records carried on.
   pub takes-all : {y : Looking} {L : List (List ℕ)} → 0 < m → length L ≤ m → Alike (standing r) L → Tallied r (lookedSoFar r L (length L) 0) L y → Takes r m y
   takes-all {L = L} some-slot h a =
-      taken (all-records a)
-      (so-far-all r L
-      ∙ sym
-      (ap (λ b. cond b (until (lastLine m L none) (carried (lowestBytes (shares r)) L)) []) (lt-ltb 0 m some-slot)
-      ∙ ap (λ b. until (cond b (some (at L m)) none) (carried (lowestBytes (shares r)) L)) (le-ltb m (length L) h)))
+      taken (all-records a) (so-far-all r L ∙ sym (looked-fitting r m L none some-slot h))
 
   -- The next line, which the byte c makes of record q's, has a new standing.
   module _ (M : List (List ℕ)) (q c : ℕ) (inside : q < length M) (byte : c < 256) (lowest : isLowest (shares r) c ≡ true) where
@@ -292,8 +299,7 @@ module _ (r : Re) (m : ℕ) where
           let size : length L ≡ suc (length M) = snoc-size M (nextLine M q c) in
           taken (up-to-witness M (nextLine M q c) u)
           (sym
-          (ap (λ b. cond b (until (lastLine m L (some (nextLine M q c))) (carried (lowestBytes (shares r)) L)) []) (lt-ltb 0 m (omega arith))
-          ∙ ap (λ b. until (cond b (some (at L m)) (some (nextLine M q c))) (carried (lowestBytes (shares r)) L)) (le-ltb m (length L) (omega (arith, size)))
+          (looked-fitting r m L (some (nextLine M q c)) (omega arith) (omega (arith, size))
           ∙ looked-up-to L (omega (arith, size)) (take-append-le q M (nextLine M q c ∷ []) (omega arith)) (snoc-old M (nextLine M q c) q inside) x))
 
       -- or that there is no slot for it.
@@ -326,7 +332,6 @@ module _ (r : Re) (m : ℕ) where
             getD-take q L k [] i ∙ old (needed needs) k (omega arith) (omega arith) ∙ sym (getD-take q M k [] i)) in
             taken needs
             (sym
-            (ap (λ b. cond b (until (lastLine m L w) (carried (lowestBytes (shares r)) L)) []) (lt-ltb 0 m (omega arith))
-            ∙ ap (λ b. until (cond b (some (at L m)) w) (carried (lowestBytes (shares r)) L)) (lt-ltb m (length L) (omega arith))
+            (looked-full r m L w (omega arith) (omega arith)
             ∙ ap (λ e. upTo e (carried (lowestBytes (shares r)) L)) last
             ∙ looked-up-to L (omega arith) before (old (needed needs) q (omega arith) inside) x))

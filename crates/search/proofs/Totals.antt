@@ -2,20 +2,19 @@
 -- Assumes nothing.
 use mathlib.Core.Path.{_≡_, ap, ap₂, _∙_}
 use Prim.Native.Nat.{ℕ, _+_, _*_, _≤_, _<_}
-use mathlib.Core.Bool.{cond}
 use mathlib.Core.List.{List, [], _∷_, _++_}
-use mathlib.Core.Option.{Option, none, some}
+use mathlib.Core.Option.{none}
 use native.Mathlib.Omega.{arith}
 use native.Mathlib.Nat.{suc-mul}
-use borrow.Author.Tests.{lt-ltb, le-ltb}
 use lib.ListN.{length, length-append, length-map}
 use Rattle.theory.specs.Pattern.{Re, Numbered}
 use Rattle.theory.specs.Standing.{standing}
-use Rattle.theory.specs.Records.{at, Alike, Needs, all-records}
+use Rattle.theory.specs.Records.{Alike, all-records}
 use Rattle.verdict.proofs.Checked.{needs-one, needs-some}
 use Rattle.groups.specs.Numbers.{shares, lowestBytes, groupsOf}
 use Rattle.search.specs.declared.Looking.{Looking}
-use Rattle.search.specs.Looking.{carriedBy, carried, until, lastLine, lookedFor, saturated, lookingFor, Takes, takes}
+use Rattle.search.specs.Looking.{carriedBy, carried, lookedFor, saturated, lookingFor, Takes, takes}
+use Rattle.search.proofs.Tallies.{looked-fitting}
 
 -- EVERY SEARCH TAKES ONE AMOUNT OF LOOKING,
 pub takes-one : (r : Re) (m : ℕ) {y z : Looking} → Numbered 0 r → Takes r m y → Takes r m z → y ≡ z
@@ -35,7 +34,5 @@ carried-size C (u ∷ L) =
 pub looks-alike : (r : Re) (m : ℕ) {y : Looking} {L : List (List ℕ)} → Numbered 0 r → Alike (standing r) L → 0 < m → length L ≤ m → Takes r m y → y .looks ≡ saturated (length L * groupsOf r .count)
 looks-alike r m {y} {L} d a h fits x =
     ap (λ z. z .looks) (takes-one r m d x (takes (all-records a)))
-    ∙ ap (λ W. saturated (length W))
-    (ap (λ b. cond b (until (lastLine m L none) (carried (lowestBytes (shares r)) L)) []) (lt-ltb 0 m h)
-    ∙ ap (λ b. until (cond b (some (at L m)) none) (carried (lowestBytes (shares r)) L)) (le-ltb m (length L) fits))
+    ∙ ap (λ W. saturated (length W)) (looked-fitting r m L none h fits)
     ∙ ap saturated (carried-size (lowestBytes (shares r)) L)

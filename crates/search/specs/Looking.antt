@@ -45,6 +45,7 @@ upTo e (w ∷ W) = w ∷ cond (sameList w e) [] (upTo e W)
 abbrev pub lastLine : ℕ → List (List ℕ) → Option (List ℕ) → Option (List ℕ)
 lastLine m L w = cond (ltb m (length L)) (some (at L m)) w
 
+-- The lines of W up to that line; all of them if there is none.
 abbrev pub until : Option (List ℕ) → List (List ℕ) → List (List ℕ)
 until none W = W
 until (some e) W = upTo e W
@@ -57,6 +58,7 @@ lookedFor r m L w = cond (ltb 0 m) (until (lastLine m L w) (carried (lowestBytes
 abbrev pub saturated : ℕ → ℕ
 saturated n = min n 18446744073709551615
 
+-- What the looks for the lines W take, where the empty line's record is there at first.
 abbrev pub lookingFor : Re → List (List ℕ) → Looking
 lookingFor r W = record { looks = saturated (length W); comparisons = saturated (comparisons r ([] ∷ []) W) }
 

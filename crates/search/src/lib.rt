@@ -46,6 +46,7 @@ fn is_witness(first: bool, some: bool) -> bool
     some && !first
 }
 
+// The sum, or the greatest number if it is above that.
 fn plus(a: usize, b: usize) -> usize
     ensures { λ r. ⌜ r ≡ saturated (a + b) ⌝ }
 {

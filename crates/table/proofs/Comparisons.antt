@@ -2,15 +2,19 @@
 -- Assumes nothing.
 use mathlib.Core.Path.{_≡_, refl, sym, ap, ap₂, _∙_, subst}
 use mathlib.Core.Logic.{_⊎_, inl, inr}
-use Prim.Native.Nat.{ℕ, zero, suc, _+_, _-_, _≤_, _<_}
+use Prim.Native.Nat.{ℕ, zero, suc, _+_, _-_, _≤_, _<_, min}
 use mathlib.Core.Bool.{true, false, cond}
-use mathlib.Core.List.{List}
+use mathlib.Core.List.{List, _++_}
 use native.Mathlib.Omega.{arith}
+use native.Mathlib.Nat.{sub-zero}
 use native.Mathlib.Decide.{ℕ-discrete, decLt}
-use borrow.Author.Tests.{eq-eqb, ne-eqb, lt-ltb, le-ltb, eqb-true}
-use lib.ListN.{length, getD, take, drop}
+use borrow.Author.Tests.{eq-eqb, ne-eqb, lt-ltb, le-ltb, eqb-true, le-leb}
+use lib.Dec.{leb, leb→le}
+use lib.ListN.{length, length-append, getD, take, drop}
 use lib.Seq.{ext-getD, getD-take, getD-drop, take-all, slice, length-slice}
-use Rattle.theory.proofs.Tests.{either}
+use Rattle.theory.proofs.Tests.{not-true}
+use Rattle.theory.specs.Standing.{from, filter}
+use Rattle.theory.proofs.Members.{filter-append}
 use Rattle.table.specs.Looks.{firstUnequal, comparisonEnd, bytesCompared, sameStanding}
 
 module _ (u v : List ℕ) where
@@ -88,7 +92,7 @@ module _ (u v : List ℕ) where
   ends-after h = rw (le-ltb (firstUnequal 10 0 u v) 10 h)
 
 module _ (u v : List ℕ) where
-  -- A COMPARISON ENDS OUTSIDE THE ORIGIN FIELDS, having looked at 61 bytes at most.
+  -- A COMPARISON ENDS OUTSIDE THE ORIGIN FIELDS, or finds no unequal byte.
   pub end-outside : (comparisonEnd u v < 10) ⊎ ((13 ≤ comparisonEnd u v) × (comparisonEnd u v ≤ 64))
   end-outside =
       elim (decLt (firstUnequal 10 0 u v) 10) [
@@ -96,8 +100,27 @@ module _ (u v : List ℕ) where
         | no l ↦ inr (omega (arith, ends-after u v (omega arith), unequal-least u v 51 13), omega (arith, ends-after u v (omega arith), unequal-most u v 51 13))
       ]
 
-  pub bytes-most : bytesCompared (comparisonEnd u v) ≤ 61
-  bytes-most = either (λ l. rw (lt-ltb (comparisonEnd u v) 10 l) (omega arith)) (λ h. rw (le-ltb (comparisonEnd u v) 10 (omega (arith, h .0))) (omega arith)) end-outside
+-- How many of d places from n on stand up to e.
+places : (n d e : ℕ) → length (filter (λ i. leb i e) (from n d)) ≡ min d (suc e - n)
+places n zero e = omega arith
+places n (suc d) e =
+    elim (decLt e n) [
+      | yes l ↦ rw (lt-leb n e l) (places (suc n) d e ∙ (let z : min d (suc e - suc n) ≡ min (suc d) (suc e - n) = omega arith in z))
+      | no l ↦ rw (le-leb n e (omega arith)) (ap suc (places (suc n) d e) ∙ (let z : suc (min d (suc e - suc n)) ≡ min (suc d) (suc e - n) = omega arith in z))
+    ]
+  where
+    lt-leb : (a b : ℕ) → b < a → leb a b ≡ false
+    lt-leb a b h = not-true (leb a b) λ t. absurd (let k = leb→le a b t in omega arith)
+
+-- THE BYTES THAT A COMPARISON LOOKS AT: up to 10 before the origin fields, and up to 51 after them.
+pub bytes-are : (e : ℕ) → bytesCompared e ≡ min 10 (suc e) + min 51 (suc e - 13)
+unfolding bytesCompared
+bytes-are e =
+    let low : length (filter (λ i. leb i e) (from 0 10)) ≡ min 10 (suc e) = places 0 10 e ∙ ap (min 10) (sub-zero (suc e)) in
+    let high : length (filter (λ i. leb i e) (from 13 51)) ≡ min 51 (suc e - 13) = places 13 51 e in
+    ap length (filter-append (λ i. leb i e) (from 0 10) (from 13 51))
+    ∙ length-append (filter (λ i. leb i e) (from 0 10)) (filter (λ i. leb i e) (from 13 51))
+    ∙ ap₂ _+_ low high
 
 module _ (u v x y : List ℕ) where
   run-same : (n i : ℕ) → ((j : ℕ) → i ≤ j → j < i + n → j ≤ firstUnequal n i u v → (getD u j 0 ≡ getD x j 0) × (getD v j 0 ≡ getD y j 0)) → firstUnequal n i x y ≡ firstUnequal n i u v

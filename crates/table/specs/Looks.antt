@@ -1,10 +1,11 @@
 -- The look through the records of a table, and its comparisons (request 4 of paper 02).
 -- Assumes nothing.
-use Prim.Native.Nat.{ℕ, zero, suc, _-_, min}
+use Prim.Native.Nat.{ℕ, zero, suc}
 use mathlib.Core.Bool.{Bool, true, false, cond}
-use mathlib.Core.List.{List}
-use lib.ListN.{getD}
-use lib.Dec.{eqb, ltb}
+use mathlib.Core.List.{List, _++_}
+use lib.ListN.{length, getD}
+use lib.Dec.{eqb, ltb, leb}
+use Rattle.theory.specs.Standing.{from, filter}
 use Rattle.table.specs.Slots.{slotAt}
 use Rattle.table.specs.declared.Look.{Look}
 
@@ -17,9 +18,9 @@ firstUnequal (suc n) i u v = cond (eqb (getD u i 0) (getD v i 0)) (firstUnequal 
 unfoldable pub comparisonEnd : List ℕ → List ℕ → ℕ
 comparisonEnd u v = cond (ltb (firstUnequal 10 0 u v) 10) (firstUnequal 10 0 u v) (firstUnequal 51 13 u v)
 
--- How many bytes of each record a comparison looks at that ends there.
-abbrev pub bytesCompared : ℕ → ℕ
-bytesCompared e = cond (ltb e 10) (suc e) (min (e - 2) 61)
+-- How many bytes of each record a comparison looks at that ends at e: those of the places outside the origin fields, up to e.
+unfoldable pub bytesCompared : ℕ → ℕ
+bytesCompared e = length (filter (λ i. leb i e) (from 0 10 ++ from 13 51))
 
 -- Two records are "of the same standing": the comparison finds no unequal byte.
 abbrev pub sameStanding : List ℕ → List ℕ → Bool
