@@ -37,7 +37,8 @@ def ways(r, line):
             return of(r[1], i) + of(r[2], i)
         if r[0] == 'field':
             return [(k, ((r[2], False, i),) + marks + ((r[2], True, k),)) for k, marks in of(r[1], i)]
-        return [x for k, marks in of(r[1], i) for x in ([(k, marks)] if k == i else after(r, k, marks))] + [(i, ())]
+        turns = [x for k, marks in of(r[1], i) for x in ([(k, marks)] if k == i else after(r, k, marks))]
+        return [(i, ())] + turns if r[0] == 'lazy' else turns + [(i, ())]
 
     return lambda i: of(r, i)
 

@@ -1,7 +1,7 @@
 """A slow, obvious reading of paper 01, apart from the product. It makes the expected results of the case files.
 
 read(p) -> ('refused', number, place) or ('accepted', written-out pattern). A written-out pattern is ('empty',), ('leaf', set of bytes),
-('seq', x, y), ('alt', x, y), ('star', x) or ('field', x, number): the first eight brackets are fields (request 2 of paper 02).
+('seq', x, y), ('alt', x, y), ('star', x), ('lazy', x) or ('field', x, number): the first eight brackets are fields (request 2 of paper 02), a lazy star is r*? (request 5).
 openings(p) -> the places of an accepted pattern's opening brackets."""
 
 SPECIAL = b'\\|()[]{}*+?.^$'
@@ -93,18 +93,24 @@ class Reader:
 
     def repeat(self, x, w):
         c = self.peek()
-        if c == ord('*'):
-            self.i += 1
-            return ('star', x), w
-        if c == ord('+'):
-            self.i += 1
-            return chain([x, ('star', x)]), 2 * w
-        if c == ord('?'):
-            self.i += 1
-            return ('alt', x, ('empty',)), w
         if c == ord('{'):
             return self.count(x, w)
-        return x, w
+        if c is None or c not in b'*+?':
+            return x, w
+        self.i += 1
+        lazy = self.lazy()
+        if c == ord('*'):
+            return star(x, lazy), w
+        if c == ord('+'):
+            return chain([x, star(x, lazy)]), 2 * w
+        return optional(1, x, lazy)[0], w
+
+    def lazy(self):
+        """Whether a `?` follows a repeat (request 5 of paper 02)."""
+        if self.peek() != ord('?'):
+            return False
+        self.i += 1
+        return True
 
     def count(self, x, w):
         at = self.i
@@ -118,9 +124,10 @@ class Reader:
         if m > 63 or (n is not None and (n > 63 or n < m)):
             self.refuse(5, at)
         self.i = close + 1
+        lazy = self.lazy()
         if n is None:
-            return chain([x] * m + [('star', x)]), w * (m + 1)
-        return chain([x] * m + optional(n - m, x)), w * n if n else 1
+            return chain([x] * m + [star(x, lazy)]), w * (m + 1)
+        return chain([x] * m + optional(n - m, x, lazy)), w * n if n else 1
 
     def klass(self, at):
         """The class whose [ is at the place `at`; any fault is 4 there."""
@@ -175,8 +182,15 @@ def chain(parts):
     return parts[0] if len(parts) == 1 else ('seq', parts[0], chain(parts[1:]))
 
 
-def optional(k, x):
-    return [('alt', chain([x] + optional(k - 1, x)), ('empty',))] if k else []
+def star(x, lazy):
+    return ('lazy' if lazy else 'star', x)
+
+
+def optional(k, x, lazy):
+    if not k:
+        return []
+    copies = chain([x] + optional(k - 1, x, lazy))
+    return [('alt', ('empty',), copies) if lazy else ('alt', copies, ('empty',))]
 
 
 def read(p):
@@ -196,7 +210,7 @@ def openings(p):
 
 def below(r):
     """The parts that a part has."""
-    return {'empty': r[1:], 'leaf': (), 'seq': r[1:], 'alt': r[1:], 'star': r[1:], 'field': r[1:2]}[r[0]]
+    return {'empty': r[1:], 'leaf': (), 'seq': r[1:], 'alt': r[1:], 'star': r[1:], 'lazy': r[1:], 'field': r[1:2]}[r[0]]
 
 
 def leaves(r):

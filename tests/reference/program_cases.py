@@ -14,6 +14,10 @@ def nest(n, rest=''):
     return 'a?' + rest if n == 0 else '(' + nest(n - 1, ')?' + rest)
 
 
+def lazy_nest(n, rest=''):
+    return 'a??' + rest if n == 0 else '(' + lazy_nest(n - 1, ')??' + rest)
+
+
 def deep(n, rest=''):
     return 'a{0,63}' + rest if n == 0 else 'a{0,63}(' + deep(n - 1, '){0}' + rest)
 
@@ -42,15 +46,20 @@ REFERENCE = encoded('a|ab', '(a|ab)*', 'a*(b|abc)', 'ab|a', 'a*', 'b*', 'a', 'a{
 EMPTY_TURNS = encoded('(|a)+', '(|a){2,}', '((|a)*b?)*', '((|a)(|b))*', '(a*|b)*', '(|a*)*b', '(()|a){1,}|b', '(()|ab)*c', '((a|)*|ab)*',
                       '(a|)*b', '(a*)*', '(a*)+', '(b|a*)*', '(|a){0,3}', '(|a|aaa){0,2}(ab|bc)')
 
-CHECKED = REFERENCE + EMPTY_TURNS + encoded(
+# Paper 02, request 5: lazy repeats. Every sign and count, over parts of any kind, with and without a rest that needs more turns; with request 1; signs without an effect; and a sign too many.
+LAZY = encoded('a*?', 'a+?', 'a??', 'a{2,}?', 'a{0,}?', 'a{1,3}?', 'a{0,2}?', 'a{2}?', 'a{0}?', 'a{0,0}?', 'a{1}?b', '(a|ab)??', 'a{1,3}?b', 'a*?b', 'a+?b', 'a??b', 'a{2,4}?b', 'a{2,}?b', '(a|ab)*?c',
+               '(a|ab)*?', '(a*?)*', '(a*)*?', '(a+?)+?b', '(|a)*?', '(|a)*?b', '(a|)+?', '(a??b?)*', '(a??b??)*?c', '((a??)+?b)*?', '(a{2,3}?b){2,}?', '(ab??){3}?c??', '.*?a', '[ab]*?b', 'a*?a*', 'a*a*?',
+               'a??a', 'aa??', 'x*?', '(a*?)?', '()*?', '()??', '(()??)*?', 'a{0,3}?a{0,3}?', '(a{1,2}?|b)*?c', 'a*??', 'a???', 'a*?*', 'a*?{2}', 'a?+', 'a+?+', 'a{2}??', 'a{2}?{3}', '?', '(?a)', 'a|??', '*?')
+
+CHECKED = REFERENCE + EMPTY_TURNS + LAZY + encoded(
     # the empty pattern, a blank line
     '',
     # refusal 1: one byte too many, a line that is not kept whole, a line longer than a chunk of the input
     'a' * 256, '(' * 1100, 'a' * 66000,
     # 2 to 8
-    ')', 'a]', '}', '^a', '(|+)', 'a??|', 'a{2}{3}', '\\', 'ab\\n', '[', '[]', '[z-a]', '[[:digit]]', 'a{', 'a{,3}', 'a{64}', '((a)', '(' * 16 + 'a' + ')' * 15 + '(', '(a{33}){2}', '(a{63}bc){0}', '(a|ab|b){21}(c|cd)?',
+    ')', 'a]', '}', '^a', '(|+)', 'a?+|', 'a{2}{3}', '\\', 'ab\\n', '[', '[]', '[z-a]', '[[:digit]]', 'a{', 'a{,3}', 'a{64}', '((a)', '(' * 16 + 'a' + ')' * 15 + '(', '(a{33}){2}', '(a{63}bc){0}', '(a|ab|b){21}(c|cd)?',
     # the limits: 255 bytes, depth 16, weight 64
-    '[' + 'a' * 253 + ']', '(' * 16 + 'a|ab' + ')' * 16, '(a|ab){21}c', '(' * 16 + 'a' + ')*' * 16, deep(16), '(' + nest(15, '){0,63}' + nest(16)),
+    '[' + 'a' * 253 + ']', '(' * 16 + 'a|ab' + ')' * 16, '(a|ab){21}c', '(' * 16 + 'a' + ')*' * 16, deep(16), '(' + nest(15, '){0,63}' + nest(16)), '(' + lazy_nest(15, '){0,63}?' + lazy_nest(12)),
     # the same wanted leaves in another order are another standing
     '(a?a)*', '(|a*)b',
     # the POSIX set goes on after the first end; leftmost before longest
@@ -64,9 +73,9 @@ CHECKED = REFERENCE + EMPTY_TURNS + encoded(
     # and the last newline left out
     'a(|b)')
 
-EXPLAINED = REFERENCE + EMPTY_TURNS + encoded(
+EXPLAINED = REFERENCE + EMPTY_TURNS + LAZY + encoded(
     # deep and heavy
-    '(' * 16 + 'a|ab' + ')' * 16, '(' * 16 + '|a' + ')?' * 16, deep(16), '(' + nest(15, '){0,63}' + nest(16)), '(a|ab){20}(|a)(|b)',
+    '(' * 16 + 'a|ab' + ')' * 16, '(' * 16 + '|a' + ')?' * 16, deep(16), '(' + nest(15, '){0,63}' + nest(16)), '(' + lazy_nest(15, '){0,63}?' + lazy_nest(12)), '(a|ab){20}(|a)(|b)',
     # both verdicts, any bytes, refusals 10 and 1
     '', 'b(|a)', 'x?(|y)', '(|a|ab)(c|bcd)?', 'a|ab|abc', '[ab](|[bc]+)', 'a{0,2}ab?', b'\xff(|\x00)', '(.|a.{10})*', 'a' * 256,
     # readable bytes: a digit, a letter, a byte below the digits, the space, and none
@@ -77,7 +86,7 @@ LENGTHS = [(t, w) for t in (0, 1, 63, 64, 65, 127, 128, 255, 256, 257) for w in 
 CALLS = [(p, t, w) for p in encoded('a|ab', '(a|ab)*', 'a*', '()', 'a(') for t, w in LENGTHS]
 CALLS += [(p, t, w) for p in encoded('', 'a' * 256, 'a**', '\\', '[z-a]', 'a{2,1}', '((', '(' * 17, 'a{63}bc') for t, w in ((0, 0), (1, 1), (64, 0), (130, 2))]
 CALLS += [(p, t, w) for p in encoded('a|ab', 'a{63}', '(a?a)*', '[a-c]|b\xff', 'a(|bcdefg)') for t, w in ((639, 6), (640, 7), (641, 8), (8192, 1024))]
-CALLS += [(p, t, w) for p in encoded('(|a)*') + EMPTY_TURNS for t, w in ((0, 0), (64, 1), (127, 2), (191, 1), (192, 0), (192, 1), (257, 3), (575, 3), (576, 2), (640, 8))]
+CALLS += [(p, t, w) for p in encoded('(|a)*') + EMPTY_TURNS + LAZY for t, w in ((0, 0), (64, 1), (127, 2), (191, 1), (192, 0), (192, 1), (257, 3), (575, 3), (576, 2), (640, 8))]
 
 
 def shown(pattern):

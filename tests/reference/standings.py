@@ -1,5 +1,5 @@
-"""A slow, obvious reading of paper 01's outcomes, spans, standings, records and refusals 10 and 11, with request 1 of paper 02, apart from the product. The reader is
-paper01.py's.
+"""A slow, obvious reading of paper 01's outcomes, spans, standings, records and refusals 10 and 11, with requests 1 and 5 of paper 02, apart from the product. The reader
+is paper01.py's.
 
 check(pattern, table, witness) -> (line that the checker program prints, table afterwards, witness buffer afterwards)."""
 from paper01 import below, leaves, read
@@ -47,7 +47,8 @@ def outcomes(r, line):
             return of(r[1], i)
         # A repeat. Request 1 of paper 02: an empty turn's end stays in its place, as the repeat's.
         turns = [o for x in of(r[1], i) for o in ([x] if x == ('ends', i) else after(r, [x]))]
-        return turns + [('ends', i)]
+        # Request 5: a lazy repeat has the leaving end first.
+        return [('ends', i)] + turns if r[0] == 'lazy' else turns + [('ends', i)]
 
     return lambda i: of(r, i)
 

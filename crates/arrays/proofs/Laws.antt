@@ -9,7 +9,7 @@ use native.Mathlib.Omega.{arith}
 use native.Mathlib.Decide.{decLt}
 use lib.ListN.{getD}
 use lib.Dec.{T, eqb, eqb→eq, eqb-refl, ltb, lt→ltb}
-use Rattle.theory.specs.Pattern.{Re, empty, leaf, seq, alt, star, field, count, Numbered, has}
+use Rattle.theory.specs.Pattern.{Manner, Re, empty, leaf, seq, alt, star, field, count, Numbered, has}
 use Rattle.theory.proofs.Tests.{T-true, same-test, or-left, or-right, or-cases, either}
 use Rattle.theory.proofs.Equations.{Leaf, seq-left, seq-right, alt-left, alt-right, under, inside}
 use Rattle.grammar.specs.Code.Codes.{PartKind, anEmpty, aSequence, anAlternation, aStar, aField, aLeaf, partKind}
@@ -27,7 +27,7 @@ data ByMasks (masks : List ℕ) : Re → Type 0 where
   one : {p : ℕ} → ByMasks masks (leaf p (held masks p))
   two-seq : {x y : Re} → ByMasks masks x → ByMasks masks y → ByMasks masks (seq x y)
   two-alt : {x y : Re} → ByMasks masks x → ByMasks masks y → ByMasks masks (alt x y)
-  below : {x : Re} → ByMasks masks x → ByMasks masks (star x)
+  below : {how : Manner} {x : Re} → ByMasks masks x → ByMasks masks (star how x)
   within : {f : ℕ} {x : Re} → ByMasks masks x → ByMasks masks (field f x)
 
 leaf-by : (masks : List ℕ) (p : ℕ) → ByMasks masks (leafOf masks p)
@@ -41,7 +41,7 @@ part-of-by : (masks : List ℕ) (k : PartKind) {w l r : Re} → ByMasks masks w 
 part-of-by masks anEmpty a b c = no-leaf
 part-of-by masks aSequence a b c = two-seq b c
 part-of-by masks anAlternation a b c = two-alt b c
-part-of-by masks aStar a b c = below a
+part-of-by masks (aStar how) a b c = below a
 part-of-by masks (aField f) a b c = within a
 part-of-by masks (aLeaf p) a b c = leaf-by masks p
 
@@ -95,7 +95,7 @@ numbered-leaf (alt x y) n p d g h =
       | yes l ↦ alt-left (numbered-leaf x n p (d .0) g l)
       | no l ↦ alt-right (numbered-leaf y (n + count x) p (d .1) (omega arith) (omega arith))
     ]
-numbered-leaf (star x) n p d g h = under (numbered-leaf x n p d g h)
+numbered-leaf (star how x) n p d g h = under (numbered-leaf x n p d g h)
 numbered-leaf (field f x) n p d g h = inside (numbered-leaf x n p d g h)
 
 -- THE MASKS ARE THE LEAVES' SETS.

@@ -8,11 +8,11 @@ use native.Mathlib.Omega.{arith}
 use lib.ListN.{length, getD, drop, length-append}
 use lib.Dec.{ltb}
 use borrow.Author.Tests.{lt-ltb, le-ltb, le-leb, lt-leb, ne-eqb, ltb-true}
-use Rattle.theory.specs.Pattern.{Re, empty, leaf, seq, alt, star, field}
+use Rattle.theory.specs.Pattern.{eager, lazy, Re, empty, leaf, seq, alt, star, field}
 use Rattle.grammar.specs.Code.Tokens.{nodes, Token, nil, both, or, many, byte, tokens}
 use Rattle.grammar.specs.Code.Tokens
 use Rattle.grammar.specs.Code.Codes.{PartKind, anEmpty, aSequence, anAlternation, aStar, aField, aLeaf, partKind, firstField, firstLeaf, leafHolds}
-use Rattle.grammar.proofs.Codes.{kind-field, kind-leaf, Kinded, is-empty, is-sequence, is-alternation, is-star, is-field, is-leaf, kinded}
+use Rattle.grammar.proofs.Codes.{kind-star, kind-field, kind-leaf, Kinded, is-empty, is-sequence, is-alternation, is-star, is-field, is-leaf, kinded}
 use Rattle.grammar.proofs.Tokens.{nodes-pos, At, at, at-token, head, seq-right, seq-left, alt-right, alt-left, star-part, field-part, tokens-length}
 use Rattle.words.specs.Sets.{hasBit}
 use Rattle.arrays.specs.Decoded.{middle, partOf, part}
@@ -23,7 +23,7 @@ abbrev pub tokenAt : List ℕ → List ℕ → PartKind → Token
 tokenAt s places anEmpty = nil
 tokenAt s places aSequence = both
 tokenAt s places anAlternation = or
-tokenAt s places aStar = many
+tokenAt s places (aStar how) = many how
 tokenAt s places (aField f) = Tokens.field f
 tokenAt s places (aLeaf p) = byte p (λ b. ltb b 256 && leafHolds (drop (getD places p 0) s) b)
 
@@ -35,7 +35,7 @@ abbrev tokenPart : Token → Re → Re → Re → Re
 tokenPart nil whole left right = empty
 tokenPart both whole left right = seq left right
 tokenPart or whole left right = alt left right
-tokenPart many whole left right = star whole
+tokenPart (many how) whole left right = star how whole
 tokenPart (Tokens.field f) whole left right = field f whole
 tokenPart (byte p s) whole left right = leaf p s
 
@@ -44,7 +44,7 @@ abbrev tokenSize : Token → ℕ → ℕ → ℕ
 tokenSize nil a b = 1
 tokenSize both a b = a + b + 1
 tokenSize or a b = a + b + 1
-tokenSize many a b = a + 1
+tokenSize (many how) a b = a + 1
 tokenSize (Tokens.field f) a b = a + 1
 tokenSize (byte p s) a b = 1
 
@@ -55,7 +55,8 @@ size-token s places k a b = go (kinded k)
     go is-empty = refl
     go is-sequence = refl
     go is-alternation = refl
-    go is-star = refl
+    go (is-star eager) = refl
+    go (is-star lazy) = refl
     go (is-field n h) =
         rw (kind-field n h, ne-eqb (firstField + n) 0 (λ e. omega arith), lt-leb firstLeaf (firstField + n) (omega arith), le-leb 3 (firstField + n) (omega arith))
     go (is-leaf q) = rw (kind-leaf q, ne-eqb (firstLeaf + q) 0 (λ e. omega arith), le-leb firstLeaf (firstLeaf + q) (omega arith))
@@ -76,7 +77,7 @@ part-token s places masks n k whole left right h m b = go (kinded k) b
     go is-empty b = refl
     go is-sequence b = refl
     go is-alternation b = refl
-    go is-star b = refl
+    go (is-star how) b = rw (kind-star how)
     go (is-field i l) b = rw (kind-field i l)
     go (is-leaf p) b =
         let t : ltb p n ≡ true = lt-ltb p n (omega arith) in
@@ -127,8 +128,8 @@ module _
       size-head i (alt x y) w (omega (arith, at-fits w .0, nodes-pos x))
       ∙ pair-size (i - 1) x y (sizes-right y (i - 1) (alt-right l i x y w)) (sizes-right x (i - 1 - nodes y) (alt-left l i x y w))
       (omega (arith, at-fits w .0, nodes-pos x))
-  sizes-right (star x) i w =
-      size-head i (star x) w (omega (arith, at-fits w .0, nodes-pos x)) ∙ omega (arith, sizes-right x (i - 1) (star-part l i x w))
+  sizes-right (star how x) i w =
+      size-head i (star how x) w (omega (arith, at-fits w .0, nodes-pos x)) ∙ omega (arith, sizes-right x (i - 1) (star-part l i how x w))
   sizes-right (field g x) i w =
       size-head i (field g x) w (omega (arith, at-fits w .0, nodes-pos x)) ∙ omega (arith, sizes-right x (i - 1) (field-part l i g x w))
 
@@ -173,7 +174,7 @@ module _
       let p = pair-parts x y f low (end - 1) (λ from to a b. part-right x f from to a b (omega arith)) (λ from to a b. part-right y f from to a b (omega arith))
       (alt-right l (end - 1) x y w) (alt-left l (end - 1) x y w) (omega arith) in
       part-head (alt x y) f low end w h ∙ rw (p .0, p .1)
-  part-right (star x) (suc f) low end w h k =
-      part-head (star x) f low end w h ∙ ap star (part-right x f low (end - 1) (star-part l (end - 1) x w) (omega arith) (omega arith))
+  part-right (star how x) (suc f) low end w h k =
+      part-head (star how x) f low end w h ∙ ap (star how) (part-right x f low (end - 1) (star-part l (end - 1) how x w) (omega arith) (omega arith))
   part-right (field g x) (suc f) low end w h k =
       part-head (field g x) f low end w h ∙ ap (field g) (part-right x f low (end - 1) (field-part l (end - 1) g x w) (omega arith) (omega arith))

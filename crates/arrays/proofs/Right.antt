@@ -10,7 +10,7 @@ use lib.ListN.{length, getD, take, drop, length-append, length-map, List·getD-m
 use lib.Seq.{getD-take, getD-at, take-all, length-take-le}
 use lib.Dec.{ltb}
 use borrow.Author.Tests.{lt-ltb, le-ltb, ltb-true}
-use Rattle.theory.specs.Pattern.{Re, count, number}
+use Rattle.theory.specs.Pattern.{eager, lazy, Re, count, number}
 use Rattle.grammar.specs.Code.Tokens.{nodes, nil, both, or, many, byte, tokens, renumber, leafs}
 use Rattle.grammar.specs.Code.Tokens
 use Rattle.grammar.specs.Code.Codes.{firstField, firstLeaf, tokenOf, leafHolds}
@@ -37,7 +37,8 @@ renumbered s places (c ∷ l) a p h e m = go (kinded c) e (renumbered s places l
     go is-empty e below = ap (λ k. nil ∷ k) (below a p h e m)
     go is-sequence e below = ap (λ k. both ∷ k) (below a p h e m)
     go is-alternation e below = ap (λ k. or ∷ k) (below a p h e m)
-    go is-star e below = ap (λ k. many ∷ k) (below a p h e m)
+    go (is-star eager) e below = ap (λ k. many eager ∷ k) (below a p h e m)
+    go (is-star lazy) e below = ap (λ k. many lazy ∷ k) (below a p h e m)
     go (is-field n g) e below =
         let t : ltb (firstField + n) firstLeaf ≡ true = lt-ltb (firstField + n) firstLeaf (omega arith) in
         rw (t, kind-field n g) (ap (λ k. Tokens.field (suc n) ∷ k) (below a p h (rw t at e) m))
@@ -66,7 +67,8 @@ length-places s (c ∷ l) = go (kinded c) (length-places s l)
     go is-empty e = e
     go is-sequence e = e
     go is-alternation e = e
-    go is-star e = e
+    go (is-star eager) e = e
+    go (is-star lazy) e = e
     go (is-field n h) e = rw (kind-field n h, lt-ltb (firstField + n) firstLeaf (omega arith)) e
     go (is-leaf q) e = rw (kind-leaf q, le-ltb (firstLeaf + q) firstLeaf (omega arith)) (ap suc e)
 

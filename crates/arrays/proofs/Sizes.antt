@@ -44,7 +44,7 @@ size-small kind sizes zero h = omega arith
 size-small kind sizes (suc m) h =
     let e = left-small sizes m h in
     cond-most (eqb kind 0) _ _ (suc m + 1) (omega arith)
-    (cond-most (leb 12 kind) _ _ (suc m + 1) (omega arith) (cond-most (leb 3 kind) _ _ (suc m + 1) (omega arith) (omega arith)))
+    (cond-most (leb 13 kind) _ _ (suc m + 1) (omega arith) (cond-most (leb 3 kind) _ _ (suc m + 1) (omega arith) (omega arith)))
 
 -- A store at i changes no size up to i.
 size-kept : (kind : ℕ) (sizes : List ℕ) (i j v : ℕ) → j ≤ i → sizeAt kind (set sizes i v) j ≡ sizeAt kind sizes j

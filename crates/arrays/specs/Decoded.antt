@@ -24,7 +24,7 @@ abbrev pub partOf : List ℕ → PartKind → Re → Re → Re → Re
 partOf masks anEmpty whole left right = empty
 partOf masks aSequence whole left right = seq left right
 partOf masks anAlternation whole left right = alt left right
-partOf masks aStar whole left right = star whole
+partOf masks (aStar how) whole left right = star how whole
 partOf masks (aField f) whole left right = field f whole
 partOf masks (aLeaf p) whole left right = leafOf masks p
 

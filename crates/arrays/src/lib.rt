@@ -42,7 +42,7 @@ impl Pattern {
     // The most parts of a pattern within the limits.
     pub const MAX_PARTS: usize = 2815;
 
-    // The kinds of parts: the empty sequence, a sequence of two parts, an alternation of two, a star, the fields 1 to 8, and then the leaves.
+    // The kinds of parts: the empty sequence, a sequence of two parts, an alternation of two, a star, a lazy star, the fields 1 to 8, and then the leaves.
     pub const EMPTY: u8 = 0;
 
     pub const SEQUENCE: u8 = 1;
@@ -51,9 +51,11 @@ impl Pattern {
 
     pub const STAR: u8 = 3;
 
-    pub const FIRST_FIELD: u8 = 4;
+    pub const LAZY_STAR: u8 = 4;
 
-    pub const FIRST_LEAF: u8 = 12;
+    pub const FIRST_FIELD: u8 = 5;
+
+    pub const FIRST_LEAF: u8 = 13;
 
     pub const LAST_LEAF: u8 = Pattern::FIRST_LEAF + 63;
 

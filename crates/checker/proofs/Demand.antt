@@ -7,13 +7,14 @@ use mathlib.Core.List.{List}
 use native.Mathlib.Omega.{arith}
 use lib.ListN.{length, take, drop}
 use Rattle.theory.specs.Standing.{standingBy, standing}
-use Rattle.theory.specs.Base.{base, Plain, bare}
+use Rattle.theory.specs.Base.{base, Plain, bare, turnsFirst}
 use Rattle.theory.specs.Preference.{Robust}
 use Rattle.theory.proofs.Tests.{either}
 use Rattle.grammar.specs.Grammar.{Alternation}
 use Rattle.grammar.specs.Limits.{Reads}
 use Rattle.grammar.specs.Refusals.{Fault}
 use Rattle.grammar.specs.WriteOut.{writeOut}
+use Rattle.grammar.specs.Eager.{eagerly}
 use Rattle.verdict.specs.Table.{slots}
 use Rattle.verdict.specs.Checked.{Result, refused, Whole, whole, CheckedBy, Checked, by-reader}
 use Rattle.verdict.specs.Demand.{NoneCut, FirstCut, Number, Outnumber, Longer}
@@ -21,7 +22,7 @@ use Rattle.verdict.specs.Code.Found.{Found, not-read, same-cuts, first-witness,
 use Rattle.grammar.proofs.Right.{either-way, not-both}
 use Rattle.verdict.proofs.Checked.{checked-one, checked-found}
 use Rattle.verdict.proofs.Promise.{fault-number}
-use Rattle.verdict.proofs.Unmoved.{plain-checked, bare-checked}
+use Rattle.verdict.proofs.Unmoved.{plain-checked, bare-checked, eager-checked}
 use Rattle.verdict.proofs.Demand.{RefusedBy, checked-is, none-robust, alike-means, unlike-means, ten-exactly, eleven-exactly, withheld-exactly, refused-means, lengths-kept}
 use Rattle.checker.specs.declared.Verdict.{Verdict}
 use Rattle.checker.specs.declared.Verdict.the-variants.{Alike, Unlike, Refused}
@@ -73,6 +74,10 @@ module _ (p t v : List ℕ) (x : Verdict) (t′ v′ : List ℕ) (h : Checks p t
   -- AND FOR EVERY PATTERN the one of the pattern without its brackets.
   pub check-bare : (z : Whole) → CheckedBy (λ r. standing (bare r)) p t v z ↔ (z ≡ whole (resultOf x) t′ v′)
   check-bare z = Iff·trans (Iff·symm (bare-checked z)) (check-is z)
+
+  -- AND FOR A PATTERN WITHOUT LAZY REPEATS the one by the list in which every repeat takes its turns first.
+  pub check-eager : ((a : Alternation) → Reads p a → eagerly a ≡ a) → (z : Whole) → CheckedBy (standingBy turnsFirst) p t v z ↔ (z ≡ whole (resultOf x) t′ v′)
+  check-eager u z = Iff·trans (Iff·symm (eager-checked z u)) (check-is z)
 
   -- The buffers keep their lengths.
   pub check-lengths : (length t′ ≡ length t) × (length v′ ≡ length v)

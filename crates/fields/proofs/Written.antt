@@ -10,10 +10,10 @@ use native.Mathlib.Omega.{arith}
 use lib.ListN.{replicate}
 use lib.Dec.{ltb}
 use borrow.Author.Tests.{ltb-true, ltb-false}
-use Rattle.theory.specs.Pattern.{Re, empty, leaf, seq, alt, star, field, count, number}
-use Rattle.grammar.specs.Grammar.{digitsValue, Repeat, once, many, maybe, exactly, atLeast, between, Alternation, last, or, Sequence, nothing, part, Atom, byte, dot, class, group}
+use Rattle.theory.specs.Pattern.{Manner, eager, lazy, Re, empty, leaf, seq, alt, star, field, opt, count, number}
+use Rattle.grammar.specs.Grammar.{digitsValue, Repeat, once, many, maybe, exactly, atLeast, between, lazily, Alternation, last, or, Sequence, nothing, part, Atom, byte, dot, class, group}
 use Rattle.grammar.specs.Brackets.{brackets, bracketsWithin, bracketsAtom, maxFields}
-use Rattle.grammar.specs.WriteOut.{chain, optional, repeatOf, bracketed, shape, parts, shapeAtom, writeOut}
+use Rattle.grammar.specs.WriteOut.{chain, optional, repeatBy, bracketed, shape, parts, shapeAtom, writeOut}
 use Rattle.traces.specs.Brackets.{Without, Apart}
 use Rattle.traces.specs.Nest.{Under}
 use Rattle.fields.specs.Inner.{Inner, InnerWithin, InnerAtom}
@@ -23,7 +23,7 @@ record Keeps (P : Re → Type 0) : Type 0 where
   nil : P empty
   both : (x y : Re) → P x → P y → P (seq x y)
   either : (x y : Re) → P x → P y → P (alt x y)
-  turns : (x : Re) → P x → P (star x)
+  turns : (how : Manner) (x : Re) → P x → P (star how x)
 
 data Every (P : Re → Type 0) : List Re → Type 0 where
   none : Every P []
@@ -36,29 +36,33 @@ module _ (P : Re → Type 0) (k : Keeps P) where
   chain-keeps (x ∷ []) (more _ _ p none) = p
   chain-keeps (x ∷ y ∷ l) (more _ _ p e) = k .both x (chain (y ∷ l)) p (chain-keeps (y ∷ l) e)
 
+  opt-keeps : (how : Manner) (x : Re) → P x → P (opt how x)
+  opt-keeps eager x p = k .either x empty p (k .nil)
+  opt-keeps lazy x p = k .either empty x (k .nil) p
+
   module _ (x : Re) (p : P x) where
     copies-keep : (n : ℕ) (l : List Re) → Every P l → Every P (replicate n x ++ l)
     copies-keep zero l e = e
     copies-keep (suc n) l e = more x (replicate n x ++ l) p (copies-keep n l e)
 
-    optional-keeps : (n : ℕ) → Every P (optional n x)
+    optional-keeps : (how : Manner) (n : ℕ) → Every P (optional how n x)
     unfolding optional
-    optional-keeps zero = none
-    optional-keeps (suc n) =
-        more _ [] (k .either (chain (x ∷ optional n x)) empty (chain-keeps (x ∷ optional n x) (more x (optional n x) p (optional-keeps n))) (k .nil)) none
+    optional-keeps how zero = none
+    optional-keeps how (suc n) = more _ [] (opt-keeps how (chain (x ∷ optional how n x)) (chain-keeps (x ∷ optional how n x) (more x (optional how n x) p (optional-keeps how n)))) none
 
-    repeat-keeps : (r : Repeat) → P (repeatOf r x)
-    repeat-keeps once = p
-    repeat-keeps many = k .turns x p
-    repeat-keeps Repeat.more = chain-keeps _ (more x _ p (more (star x) [] (k .turns x p) none))
-    repeat-keeps maybe = k .either x empty p (k .nil)
-    repeat-keeps (exactly m) = chain-keeps _ (same (digitsValue m))
+    repeat-keeps : (how : Manner) (r : Repeat) → P (repeatBy how r x)
+    repeat-keeps how once = p
+    repeat-keeps how many = k .turns how x p
+    repeat-keeps how Repeat.more = chain-keeps _ (more x _ p (more (star how x) [] (k .turns how x p) none))
+    repeat-keeps how maybe = opt-keeps how x p
+    repeat-keeps how (exactly m) = chain-keeps _ (same (digitsValue m))
       where
         same : (n : ℕ) → Every P (replicate n x)
         same zero = none
         same (suc n) = more x (replicate n x) p (same n)
-    repeat-keeps (atLeast m) = chain-keeps _ (copies-keep (digitsValue m) _ (more (star x) [] (k .turns x p) none))
-    repeat-keeps (between m n) = chain-keeps _ (copies-keep (digitsValue m) _ (optional-keeps (digitsValue n - digitsValue m)))
+    repeat-keeps how (atLeast m) = chain-keeps _ (copies-keep (digitsValue m) _ (more (star how x) [] (k .turns how x p) none))
+    repeat-keeps how (between m n) = chain-keeps _ (copies-keep (digitsValue m) _ (optional-keeps how (digitsValue n - digitsValue m)))
+    repeat-keeps how (lazily r) = repeat-keeps lazy r
 
   -- What the atoms of a text have at their places has the written-out text, before its leaves are numbered.
   data Each : Sequence → ℕ → Type 0 where
@@ -68,7 +72,7 @@ module _ (P : Re → Type 0) (k : Keeps P) where
   parts-keep : (q : Sequence) (n : ℕ) → Each q n → Every P (parts q n)
   unfolding shape
   parts-keep nothing n e = none
-  parts-keep (part a r q) n (and-then _ _ _ _ p e) = more _ _ (repeat-keeps (shapeAtom a n) p r) (parts-keep q (n + bracketsAtom a) e)
+  parts-keep (part a r q) n (and-then _ _ _ _ p e) = more _ _ (repeat-keeps (shapeAtom a n) p eager r) (parts-keep q (n + bracketsAtom a) e)
 
   sequence-keeps : (q : Sequence) (n : ℕ) → Each q n → P (chain (parts q n))
   sequence-keeps q n e = chain-keeps (parts q n) (parts-keep q n e)
@@ -107,7 +111,7 @@ bracketed-cases P n x f g = go (ltb n maxFields) (ltb-true n maxFields) (ltb-fal
 module _ (f : ℕ) where
   keeps-without : Keeps (Without f)
   unfolding Without
-  keeps-without = record { nil = tt; both = λ x y a b. (a, b); either = λ x y a b. (a, b); turns = λ x a. a }
+  keeps-without = record { nil = tt; both = λ x y a b. (a, b); either = λ x y a b. (a, b); turns = λ how x a. a }
 
   mutual
     unfolding shape Without
@@ -138,7 +142,7 @@ module _ (f : ℕ) where
 -- No bracket inside one of its own number.
 keeps-apart : Keeps Apart
 unfolding Apart
-keeps-apart = record { nil = tt; both = λ x y a b. (a, b); either = λ x y a b. (a, b); turns = λ x a. a }
+keeps-apart = record { nil = tt; both = λ x y a b. (a, b); either = λ x y a b. (a, b); turns = λ how x a. a }
 
 mutual
   unfolding shape Apart
@@ -166,7 +170,7 @@ number-without f n empty w = tt
 number-without f n (leaf p s) w = tt
 number-without f n (seq x y) w = (number-without f n x (w .0), number-without f (n + count x) y (w .1))
 number-without f n (alt x y) w = (number-without f n x (w .0), number-without f (n + count x) y (w .1))
-number-without f n (star x) w = number-without f n x w
+number-without f n (star how x) w = number-without f n x w
 number-without f n (field g x) w = (w .0, number-without f n x (w .1))
 
 number-apart : (n : ℕ) (r : Re) → Apart r → Apart (number n r)
@@ -175,7 +179,7 @@ number-apart n empty a = tt
 number-apart n (leaf p s) a = tt
 number-apart n (seq x y) a = (number-apart n x (a .0), number-apart (n + count x) y (a .1))
 number-apart n (alt x y) a = (number-apart n x (a .0), number-apart (n + count x) y (a .1))
-number-apart n (star x) a = number-apart n x a
+number-apart n (star how x) a = number-apart n x a
 number-apart n (field f x) a = (number-without f n x (a .0), number-apart n x (a .1))
 
 -- NO FIELD STANDS INSIDE ANOTHER OF ITS NUMBER,
@@ -195,7 +199,7 @@ without-under f g empty w = tt
 without-under f g (leaf p s) w = tt
 without-under f g (seq x y) w = (without-under f g x (w .0), without-under f g y (w .1))
 without-under f g (alt x y) w = (without-under f g x (w .0), without-under f g y (w .1))
-without-under f g (star x) w = without-under f g x w
+without-under f g (star how x) w = without-under f g x w
 without-under f g (field h x) w = inr (λ e. w .0 (sym e), without-under f g x (w .1))
 
 number-under : (f g n : ℕ) (r : Re) → Under f g r → Under f g (number n r)
@@ -204,7 +208,7 @@ number-under f g n empty u = tt
 number-under f g n (leaf p s) u = tt
 number-under f g n (seq x y) u = (number-under f g n x (u .0), number-under f g (n + count x) y (u .1))
 number-under f g n (alt x y) u = (number-under f g n x (u .0), number-under f g (n + count x) y (u .1))
-number-under f g n (star x) u = number-under f g n x u
+number-under f g n (star how x) u = number-under f g n x u
 number-under f g n (field h x) (inl e) = inl e
 number-under f g n (field h x) (inr (d, u)) = inr (d, number-under f g n x u)
 
@@ -212,7 +216,7 @@ number-under f g n (field h x) (inr (d, u)) = inr (d, number-under f g n x u)
 module _ (f g : ℕ) where
   keeps-under : Keeps (Under f g)
   unfolding Under
-  keeps-under = record { nil = tt; both = λ x y a b. (a, b); either = λ x y a b. (a, b); turns = λ x a. a }
+  keeps-under = record { nil = tt; both = λ x y a b. (a, b); either = λ x y a b. (a, b); turns = λ how x a. a }
 
   mutual
     inner-above : (t : Alternation) (n : ℕ) → Inner f g t n → (n < g) × (g ≤ n + brackets t)

@@ -14,13 +14,13 @@ use Rattle.traces.specs.Code.Pass.{Sets, neither}
 use Rattle.traces.specs.Code.Sets.{joined, closing, into, after}
 use Rattle.traces.proofs.Sets.{joined-neither, after-empty, after-leaf, after-other, after-seq, after-alt, after-star, after-field}
 use Rattle.grammar.specs.Brackets.{maxFields}
-use Rattle.grammar.specs.Code.Codes.{firstField, firstLeaf, partKind}
-use Rattle.grammar.proofs.Codes.{kind-field, kind-leaf, Kinded, is-empty, is-sequence, is-alternation, is-star, is-field, is-leaf, kinded}
+use Rattle.grammar.specs.Code.Codes.{starKind, firstField, firstLeaf, partKind}
+use Rattle.grammar.proofs.Codes.{kind-star, kind-field, kind-leaf, Kinded, is-empty, is-sequence, is-alternation, is-star, is-field, is-leaf, kinded}
 use Rattle.arrays.specs.Decoded.{leafOf, middle, part, partOf}
 use Rattle.follow.specs.Outcomes.{Whole, Good, Lists}
 use Rattle.follow.specs.Parts.{Joined, Begins, Nexts, Stands}
 use Rattle.follow.proofs.Masks.{shows-neither}
-use Rattle.follow.proofs.Parts.{byLast, part-at, part-some, field-part, leaf-part}
+use Rattle.follow.proofs.Parts.{byLast, part-at, part-some, field-part, leaf-part, star-kind}
 use Rattle.follow.proofs.Begins.{lastKind, closed-lists}
 
 -- Nothing follows the leaf p in a part that does not have it.
@@ -41,7 +41,7 @@ absent-parts masks p k w x y n ew ex ey m = go (kinded k) n
     go is-empty n = after-empty m p
     go is-sequence n = after-seq m p x y ∙ rw (ex (into m neither y), ey m)
     go is-alternation n = after-alt m p x y ∙ rw (ex m, ey m)
-    go is-star n = after-star m p w ∙ ew (into m neither (star w))
+    go (is-star how) n = rw (kind-star how) (after-star m p how w ∙ ew (into m neither (star how w)))
     go (is-field i h) n = rw (kind-field i h) (after-field m p (suc i) w ∙ ew (joined (closing (suc i)) m))
     go (is-leaf q) n = rw (kind-leaf q) (other-leaf masks p q (λ e. n (omega arith)) m)
 
@@ -98,12 +98,14 @@ module _ {kinds sizes : List ℕ} {low end : ℕ} (p : ℕ) {rest out : Whole} w
         rw (field-part masks (lastKind kinds end) _ _ _ i k, after-field m p (suc n) _)
         (inner .collects (joined (closing (suc n)) m) l (closed-lists n (omega arith) blank j m a) o masks f (omega arith))
 
-    pub after-again : {none y r : Whole} → lastKind kinds end ≡ 3 → Lists none [] → Begins kinds sizes low end 0 rest none y → Nexts p kinds sizes low (end - 1) y out r → Nexts p kinds sizes low end rest out r
-    after-again {y = y} e blank again turn =
+    pub after-again : {none y r : Whole} → starKind ≤ lastKind kinds end → lastKind kinds end < firstField → Lists none [] → Begins kinds sizes low end 0 rest none y
+        → Nexts p kinds sizes low (end - 1) y out r → Nexts p kinds sizes low end rest out r
+    after-again {y = y} i k blank again turn =
+        let (how, e) = star-kind (lastKind kinds end) i k in
         by-last (turn .good) λ m l a o masks f g.
         let x = part f kinds sizes masks low (end - 1) in
-        let whole : Lists y (into m neither (star x)) = rw (part-at kinds sizes masks low f end h, e) at (again .collects neither shows-neither m [] a blank masks (suc f) g) in
-        rw (e, after-star m p x) (turn .collects (into m neither (star x)) l whole o masks f (omega arith))
+        let whole : Lists y (into m neither (star how x)) = rw (part-at kinds sizes masks low f end h, e) at (again .collects neither shows-neither m [] a blank masks (suc f) g) in
+        rw (e, after-star m p how x) (turn .collects (into m neither (star how x)) l whole o masks f (omega arith))
 
     module _ {mid : ℕ} (at : mid ≡ middle sizes low (end - 1)) where
       pub after-both : {y r : Whole} → lastKind kinds end ≡ 2 → Nexts p kinds sizes low mid rest out y → Nexts p kinds sizes mid (end - 1) rest y r → Nexts p kinds sizes low end rest out r

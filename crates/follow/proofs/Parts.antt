@@ -1,24 +1,30 @@
 -- The parts of the arrays by their last places.
 -- Assumes nothing.
-use mathlib.Core.Path.{_≡_, refl, sym, subst}
+use mathlib.Core.Path.{_≡_, refl, sym, ap, subst}
 use Prim.Native.Nat.{ℕ, zero, suc, _+_, _-_, _≤_, _<_}
+use mathlib.Core.Bool.{Bool, false}
 use mathlib.Core.List.{List}
 use native.Mathlib.Omega.{arith}
+use native.Mathlib.Decide.{ℕ-discrete}
 use lib.ListN.{getD}
 use borrow.Author.Tests.{lt-ltb, le-ltb}
-use Rattle.theory.specs.Pattern.{Re, empty, field}
-use Rattle.grammar.specs.Code.Codes.{firstField, firstLeaf, partKind}
+use Rattle.theory.specs.Pattern.{Manner, eager, lazy, Re, empty, field}
+use Rattle.grammar.specs.Code.Codes.{starKind, lazyStarKind, firstField, firstLeaf, aStar, partKind}
 use Rattle.grammar.proofs.Codes.{kind-field, kind-leaf}
 use Rattle.arrays.specs.Decoded.{leafOf, middle, part, partOf}
+use Rattle.follow.specs.Parts.{Chooses}
 
 module _ (kinds sizes masks : List ℕ) (low : ℕ) where
-  -- The part by its last place.
-  abbrev pub byLast : ℕ → ℕ → Re
-  byLast f last =
-      partOf masks (partKind (getD kinds last 0))
+  -- The part by its last place, which has the kind k.
+  abbrev pub ofKind : ℕ → ℕ → ℕ → Re
+  ofKind k f last =
+      partOf masks (partKind k)
       (part f kinds sizes masks low last)
       (part f kinds sizes masks low (middle sizes low last))
       (part f kinds sizes masks (middle sizes low last) last)
+
+  abbrev pub byLast : ℕ → ℕ → Re
+  byLast f last = ofKind (getD kinds last 0) f last
 
   pub part-none : (f end : ℕ) → end ≤ low → part f kinds sizes masks low end ≡ empty
   unfolding part
@@ -48,10 +54,14 @@ module _ (masks : List ℕ) (k : ℕ) (w x y : Re) where
       let e : firstLeaf + (k - firstLeaf) ≡ k = omega arith in
       subst (λ n. partOf masks (partKind n) w x y ≡ leafOf masks (k - firstLeaf)) e (rw (kind-leaf (k - firstLeaf)))
 
--- The kinds that are left.
-pub past-three : (k : ℕ) → (k ≡ 0 → ⊥) → (k ≡ 3 → ⊥) → (k ≡ 2 → ⊥) → (k ≡ 1 → ⊥) → firstField ≤ k
-past-three zero a b c d = absurd (a refl)
-past-three (suc zero) a b c d = absurd (d refl)
-past-three (suc (suc zero)) a b c d = absurd (c refl)
-past-three (suc (suc (suc zero))) a b c d = absurd (b refl)
-past-three (suc (suc (suc (suc k)))) a b c d = omega arith
+-- The kinds of the stars.
+pub star-kind : (k : ℕ) → starKind ≤ k → k < firstField → (how : Manner) × (partKind k ≡ aStar how)
+star-kind k i h = go (ℕ-discrete k starKind)
+  where
+    go : Dec (k ≡ starKind) → (how : Manner) × (partKind k ≡ aStar how)
+    go (yes e) = (eager, ap partKind e)
+    go (no n) = let e : k ≡ lazyStarKind = omega arith in (lazy, ap partKind e)
+
+-- The kinds that are left: those of what is neither empty nor a sequence, and does not choose.
+pub past-choices : {k : ℕ} {r : Bool} → Chooses k r → r ≡ false → (k ≡ 0 → ⊥) → (k ≡ 1 → ⊥) → firstField ≤ k
+past-choices chooses e a b = chooses .does-not e (omega arith)

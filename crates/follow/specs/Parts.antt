@@ -2,15 +2,17 @@
 -- Assumes nothing.
 use mathlib.Core.Path.{_≡_}
 use Prim.Native.Nat.{ℕ, _+_, _≤_, _<_}
-use mathlib.Core.Bool.{Bool, true, false}
+use mathlib.Core.Bool.{Bool, true, false, cond}
 use mathlib.Core.List.{List, [], _∷_, _++_}
 use lib.ListN.{getD}
+use lib.Dec.{eqb}
 use Rattle.theory.specs.Pattern.{Re}
 use Rattle.traces.specs.Traces.{Carried}
 use Rattle.traces.specs.Code.Pass.{Sets, item}
 use Rattle.traces.specs.Code.Sets.{joined, into, after}
 use Rattle.traces.specs.Code.Marks.{Shows, carriedBy}
-use Rattle.arrays.specs.Decoded.{part}
+use Rattle.grammar.specs.Code.Codes.{alternationKind, starKind, lazyStarKind, firstField}
+use Rattle.arrays.specs.Decoded.{middle, part}
 use Rattle.follow.specs.Outcomes.{Whole, Good, Lists}
 
 -- r is the list of x, and then the outcome p with the fields that the mask b has.
@@ -37,6 +39,15 @@ pub record Begins (kinds sizes : List ℕ) (low end b : ℕ) (rest out r : Whole
 pub record Nexts (p : ℕ) (kinds sizes : List ℕ) (low end : ℕ) (rest out r : Whole) : Type 0 where
   pub good : Good r
   pub collects : Collects (λ m x. after m x p) kinds sizes low end rest out r
+
+-- Whether the part goes one way or another: an alternation, or a repeat.
+pub record Chooses (kind : ℕ) (r : Bool) : Type 0 where
+  pub does : r ≡ true → (alternationKind ≤ kind) × (kind < firstField)
+  pub does-not : r ≡ false → alternationKind ≤ kind → firstField ≤ kind
+
+-- Where the second of its two ways begins, which together stand from `low` to `last`: a star's turn has all places and leaving has none, a lazy star leaves first.
+abbrev pub parting : ℕ → List ℕ → ℕ → ℕ → ℕ
+parting kind sizes low last = cond (eqb kind starKind) last (cond (eqb kind lazyStarKind) low (middle sizes low last))
 
 -- One of the places from `low` to `end` has that kind.
 abbrev pub Stands : List ℕ → ℕ → ℕ → ℕ → Type 0

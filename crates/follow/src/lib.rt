@@ -16,7 +16,7 @@ ghost use Rattle.grammar.specs.Code.Codes.{firstField, firstLeaf};
 ghost use Rattle.arrays.specs.Decoded.{decode, middle};
 ghost use Rattle.follow.specs.Rows.{Right, Marked};
 ghost use Rattle.follow.specs.Outcomes.{whole, listed, Good, Lists, Blank, Holds};
-ghost use Rattle.follow.specs.Parts.{Added, Joined, Begins, Nexts, Lacks};
+ghost use Rattle.follow.specs.Parts.{Added, Joined, Begins, Nexts, Chooses, parting, Lacks};
 ghost use Rattle.follow.specs.Stores.{places, IsRow, tablesOf, Long, Stores, Filled};
 use arrays::Kinds;
 use arrays::Pattern;
@@ -180,6 +180,27 @@ fn middle(sizes: &Sizes, low: usize, end: usize) -> usize
     end - size
 }
 
+// Whether the part goes one way or another: an alternation, or a repeat, which takes a turn or leaves.
+fn chooses(kind: u8) -> bool
+    ensures { λ r. ⌜ Chooses kind r ⌝ }
+{
+    Pattern::SEQUENCE < kind && kind < Pattern::FIRST_FIELD
+}
+
+// Where the second of two ways begins. A repeat's turn has all places and leaving has none; a lazy repeat leaves first.
+fn parting(kind: u8, sizes: &Sizes, low: usize, last: usize) -> usize
+    requires { ⌜ last ≤ maxParts ⌝ }
+    ensures { λ r. ⌜ r ≡ parting kind (now (sizes .entry)) low last ⌝ }
+{
+    if kind == Pattern::STAR {
+        return last;
+    }
+    if kind == Pattern::LAZY_STAR {
+        return low;
+    }
+    middle(sizes, low, last)
+}
+
 // What the part from low to end can begin with after the fields `marks`, its end replaced by rest, added to out.
 fn closure<'a>(
     kinds: &'a Kinds,
@@ -212,25 +233,9 @@ fn closure<'a>(
         // the leaf's number and one
         return add(out, kind - Pattern::FIRST_LEAF + 1, marks, items, own);
     }
-    if kind == Pattern::STAR {
+    let m = parting(kind, sizes, low, last);
+    if chooses(kind) {
         // the end of an empty turn is the repeat's, in its place
-        let turns = closure(
-            kinds,
-            sizes,
-            low,
-            last,
-            marks,
-            rest,
-            numbers,
-            fields,
-            out,
-            items,
-            own,
-        );
-        return join(turns, rest, marks, numbers, fields, items, own);
-    }
-    let m = middle(sizes, low, last);
-    if kind == Pattern::ALTERNATION {
         let left = closure(
             kinds,
             sizes,
@@ -449,7 +454,8 @@ fn after<'a>(
             own,
         );
     }
-    if kind == Pattern::STAR {
+    if kind < Pattern::FIRST_FIELD {
+        // a repeat, whose turn may be followed by another
         let again = closure(
             kinds,
             sizes,

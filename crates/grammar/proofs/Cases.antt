@@ -5,9 +5,9 @@ use Prim.Native.Nat.{ℕ, zero, suc}
 use mathlib.Core.Bool.{Bool, true, false}
 use mathlib.Core.List.{List, [], _∷_, _++_, map}
 use lib.ListN.{replicate}
-use Rattle.theory.specs.Pattern.{Re, empty, leaf, seq, alt, star, field, opt, count, number, has}
+use Rattle.theory.specs.Pattern.{eager, lazy, Re, empty, leaf, seq, alt, star, field, opt, count, number, has}
 use Rattle.theory.specs.Standing.{from}
-use Rattle.grammar.specs.Grammar.{plain, digit, Item, range, named, one, more, exactly, atLeast, between, kind, inside}
+use Rattle.grammar.specs.Grammar.{plain, digit, Item, range, named, one, more, exactly, atLeast, between, lazily, kind, inside}
 use Rattle.grammar.specs.Limits.{heaviest, weight}
 use Rattle.grammar.specs.Sets.{setTable, inItem, inClass}
 use Rattle.grammar.specs.Brackets.{brackets, ninth}
@@ -51,6 +51,15 @@ cases =
     ∷ case 4 0 (91 ∷ 93 ∷ [])  -- []
     ∷ case 4 0 (91 ∷ 122 ∷ 45 ∷ 97 ∷ 93 ∷ [])  -- [z-a]
     ∷ case 4 0 (91 ∷ 91 ∷ 58 ∷ 97 ∷ 58 ∷ 93 ∷ 93 ∷ [])  -- [[:a:]]
+    ∷ case 2 3 (97 ∷ 42 ∷ 63 ∷ 63 ∷ [])  -- a*??
+    ∷ case 2 3 (97 ∷ 63 ∷ 63 ∷ 63 ∷ [])  -- a???
+    ∷ case 2 3 (97 ∷ 63 ∷ 63 ∷ 42 ∷ [])  -- a??*
+    ∷ case 2 3 (97 ∷ 42 ∷ 63 ∷ 123 ∷ 50 ∷ 125 ∷ [])  -- a*?{2}
+    ∷ case 2 2 (97 ∷ 63 ∷ 43 ∷ [])  -- a?+
+    ∷ case 0 2 (97 ∷ 43 ∷ 63 ∷ [])  -- a+?
+    ∷ case 0 1 (97 ∷ 63 ∷ 63 ∷ [])  -- a??
+    ∷ case 0 3 (97 ∷ 123 ∷ 49 ∷ 44 ∷ 51 ∷ 125 ∷ 63 ∷ [])  -- a{1,3}?
+    ∷ case 0 64 (97 ∷ 123 ∷ 54 ∷ 51 ∷ 125 ∷ 98 ∷ 63 ∷ 63 ∷ [])  -- a{63}b??
     ∷ case 5 1 (97 ∷ 123 ∷ 50 ∷ 44 ∷ 49 ∷ 125 ∷ [])  -- a{2,1}
     ∷ case 5 1 (97 ∷ 123 ∷ 54 ∷ 52 ∷ 125 ∷ [])  -- a{64}
     ∷ case 5 1 (97 ∷ 123 ∷ 44 ∷ 51 ∷ 125 ∷ [])  -- a{,3}
@@ -105,22 +114,39 @@ unfolding setTable
 named-set = refl
 
 -- Optional copies are nested, each inside the one before: r{1,3} is r(r(r)?)?.
-pub nested : (x : Re) → repeatOf (between (one 49) (one 51)) x ≡ seq x (opt (seq x (opt x)))
+pub nested : (x : Re) → repeatOf (between (one 49) (one 51)) x ≡ seq x (opt eager (seq x (opt eager x)))
 unfolding chain optional
 nested x = refl
+
+-- r{1,3}? leaves first at each copy: r(|r(|r)).
+pub nested-lazily : (x : Re) → repeatOf (lazily (between (one 49) (one 51))) x ≡ seq x (opt lazy (seq x (opt lazy x)))
+unfolding chain optional
+nested-lazily x = refl
 
 -- r{0} is the empty sequence, r{2,} two copies and then r*, r+ is r and then r*.
 pub no-copy : (x : Re) → repeatOf (exactly (one 48)) x ≡ empty
 unfolding chain
 no-copy x = refl
 
-pub at-least : (x : Re) → repeatOf (atLeast (one 50)) x ≡ seq x (seq x (star x))
+pub at-least : (x : Re) → repeatOf (atLeast (one 50)) x ≡ seq x (seq x (star eager x))
 unfolding chain
 at-least x = refl
 
-pub one-or-more : (x : Re) → repeatOf more x ≡ seq x (star x)
+pub one-or-more : (x : Re) → repeatOf more x ≡ seq x (star eager x)
 unfolding chain
 one-or-more x = refl
+
+-- r+? is r and then r*?, r{2,}? two copies and then r*?; in r{2}? nothing is optional.
+pub one-or-more-lazily : (x : Re) → repeatOf (lazily more) x ≡ seq x (star lazy x)
+unfolding chain
+one-or-more-lazily x = refl
+
+pub at-least-lazily : (x : Re) → repeatOf (lazily (atLeast (one 50))) x ≡ seq x (seq x (star lazy x))
+unfolding chain
+at-least-lazily x = refl
+
+pub exactly-lazily : (x : Re) → repeatOf (lazily (exactly (one 50))) x ≡ repeatOf (exactly (one 50)) x
+exactly-lazily x = refl
 
 -- The most parts: ((..(a?)?..)?){0,63} with 16 brackets, and another such part with `?` for the count. The bound of `nodes-within` is reached but for
 -- eight: the brackets of the other part are no fields.
@@ -145,7 +171,7 @@ fieldsIn empty = []
 fieldsIn (leaf p s) = []
 fieldsIn (seq x y) = fieldsIn x ++ fieldsIn y
 fieldsIn (alt x y) = fieldsIn x ++ fieldsIn y
-fieldsIn (star x) = fieldsIn x
+fieldsIn (star how x) = fieldsIn x
 fieldsIn (field f x) = f ∷ fieldsIn x
 
 abbrev fieldsOf : Answer → List ℕ

@@ -1,6 +1,6 @@
 -- The codes of leaves and of repeats are the tokens of what they write out.
 -- Assumes nothing.
-use mathlib.Core.Path.{_≡_, refl, sym, ap, _∙_, subst}
+use mathlib.Core.Path.{_≡_, refl, sym, ap, ap₂, _∙_, subst}
 use Prim.Native.Nat.{ℕ, zero, suc, _+_, _-_, _<_, _≤_}
 use mathlib.Core.Bool.{Bool, not, _&&_, cond}
 use mathlib.Core.List.{List, [], _∷_, _++_, map, map-append, append-assoc, append-nil}
@@ -9,35 +9,39 @@ use native.Mathlib.Omega.{arith}
 use native.Mathlib.Decide.{decLt}
 use lib.Dec.{eqb, ltb}
 use borrow.Author.Tests.{lt-ltb, le-ltb}
-use Rattle.theory.specs.Pattern.{Re, star, field, opt}
+use Rattle.theory.specs.Pattern.{Manner, eager, lazy, Re, star, field, opt}
 use Rattle.grammar.specs.Grammar.{plain, escaped, Item, many, byte, dot, class, Kind, ordinary, kind}
 use Rattle.grammar.specs.Sets.{inClass}
 use Rattle.grammar.specs.WriteOut.{chain, optional, bracketed, shape, shapeAtom}
 use Rattle.grammar.specs.Brackets.{maxFields}
 use Rattle.grammar.specs.Code.Reader.{found, readClass}
-use Rattle.grammar.specs.Code.Tokens.{nil, both, or, tokens, blocks}
+use Rattle.grammar.specs.Code.Tokens.{both, tokens, blocks}
 use Rattle.grammar.specs.Code.Tokens
-use Rattle.grammar.specs.Code.Codes.{PartKind, aField, aLeaf, partKind, firstField, firstLeaf, leafBy, foundHolds, leafHolds, tokenBy, tokenOf, exactlyCodes, atLeastCodes, closeCodes, betweenCodes}
-use Rattle.grammar.proofs.Suffix.{blocks-append, closes, tokens-optional, tokens-copies}
+use Rattle.grammar.specs.Code.Codes.{PartKind, aStar, aField, aLeaf, partKind, firstField, firstLeaf, leafBy, foundHolds, leafHolds, tokenBy, tokenOf, exactlyCodes, starOf, atLeastCodes, leadCodes, shutCodes, closeCodes, betweenCodes}
+use Rattle.grammar.proofs.Suffix.{blocks-append, lead, shut, closes, tokens-optional, tokens-copies}
 
--- The kinds from 4 on: eight fields, and then the leaves.
+pub kind-star : (how : Manner) → partKind (starOf how) ≡ aStar how
+kind-star eager = refl
+kind-star lazy = refl
+
+-- The kinds from 5 on: eight fields, and then the leaves.
 pub kind-field : (n : ℕ) → n < maxFields → partKind (firstField + n) ≡ aField (suc n)
 kind-field n h =
-    let e : firstField + n ≡ suc (suc (suc (suc n))) = omega arith in
+    let e : firstField + n ≡ suc (suc (suc (suc (suc n)))) = omega arith in
     ap partKind e ∙ ap (λ c. cond c (aField (suc n)) (aLeaf (n - maxFields))) (lt-ltb n maxFields h)
 
 pub kind-leaf : (q : ℕ) → partKind (firstLeaf + q) ≡ aLeaf q
 kind-leaf q =
-    let e : firstLeaf + q ≡ suc (suc (suc (suc (maxFields + q)))) = omega arith in
+    let e : firstLeaf + q ≡ suc (suc (suc (suc (suc (maxFields + q))))) = omega arith in
     let d : maxFields + q - maxFields ≡ q = omega arith in
     ap partKind e ∙ ap (λ c. cond c (aField (suc (maxFields + q))) (aLeaf (maxFields + q - maxFields))) (le-ltb (maxFields + q) maxFields (omega arith)) ∙ ap aLeaf d
 
--- What a kind is: one of the first four, a field, or a leaf.
+-- What a kind is: one of the first five, a field, or a leaf.
 pub data Kinded : ℕ → Type 0 where
   is-empty : Kinded 0
   is-sequence : Kinded 1
   is-alternation : Kinded 2
-  is-star : Kinded 3
+  is-star : (how : Manner) → Kinded (starOf how)
   is-field : (n : ℕ) → n < maxFields → Kinded (firstField + n)
   is-leaf : (q : ℕ) → Kinded (firstLeaf + q)
 
@@ -45,12 +49,13 @@ pub kinded : (k : ℕ) → Kinded k
 kinded zero = is-empty
 kinded (suc zero) = is-sequence
 kinded (suc (suc zero)) = is-alternation
-kinded (suc (suc (suc zero))) = is-star
-kinded (suc (suc (suc (suc n)))) = go (decLt n maxFields)
+kinded (suc (suc (suc zero))) = is-star eager
+kinded (suc (suc (suc (suc zero)))) = is-star lazy
+kinded (suc (suc (suc (suc (suc n))))) = go (decLt n maxFields)
   where
-    go : Dec (n < maxFields) → Kinded (suc (suc (suc (suc n))))
-    go (yes h) = let e : firstField + n ≡ suc (suc (suc (suc n))) = omega arith in subst Kinded e (is-field n h)
-    go (no h) = let e : firstLeaf + (n - maxFields) ≡ suc (suc (suc (suc n))) = omega arith in subst Kinded e (is-leaf (n - maxFields))
+    go : Dec (n < maxFields) → Kinded (suc (suc (suc (suc (suc n)))))
+    go (yes h) = let e : firstField + n ≡ suc (suc (suc (suc (suc n)))) = omega arith in subst Kinded e (is-field n h)
+    go (no h) = let e : firstLeaf + (n - maxFields) ≡ suc (suc (suc (suc (suc n)))) = omega arith in subst Kinded e (is-leaf (n - maxFields))
 
 -- A leaf whose set is f, at the place q.
 leaf-code : (p : List ℕ) (q : ℕ) (f : ℕ → Bool) → leafHolds (drop q p) ≡ f → map (tokenOf p) ((firstLeaf + q) ∷ []) ≡ Tokens.byte 0 (λ b. ltb b 256 && f b) ∷ []
@@ -90,15 +95,26 @@ replicate-more : {A : Type 0} (n : ℕ) (x : A) → replicate n x ++ (x ∷ []) 
 replicate-more zero x = refl
 replicate-more (suc n) x = ap (λ l. x ∷ l) (replicate-more n x)
 
-map-closes : (p : List ℕ) (i : ℕ) → map (tokenOf p) (closeCodes i) ≡ closes i
-map-closes p zero = refl
-map-closes p (suc i) = ap (λ l. both ∷ nil ∷ or ∷ l) (map-closes p i)
+map-shut : (p : List ℕ) (how : Manner) → map (tokenOf p) (shutCodes how) ≡ shut how
+map-shut p eager = refl
+map-shut p lazy = refl
+
+map-lead : (p : List ℕ) (how : Manner) → map (tokenOf p) (leadCodes how) ≡ lead how
+map-lead p eager = refl
+map-lead p lazy = refl
+
+map-closes : (p : List ℕ) (how : Manner) (i : ℕ) → map (tokenOf p) (closeCodes how i) ≡ closes how i
+map-closes p how zero = refl
+map-closes p how (suc i) = ap (λ l. both ∷ l) (map-append (tokenOf p) (shutCodes how) (closeCodes how i) ∙ ap₂ _++_ (map-shut p how) (map-closes p how i))
+
+map-star : (p : List ℕ) (how : Manner) → tokenOf p (starOf how) ≡ Tokens.many how
+map-star p how = ap (tokenBy p) (kind-star how)
 
 -- What repeats make of a part y with the codes k.
 module _ (p k : List ℕ) (y : Re) (h : map (tokenOf p) k ≡ tokens y) where
-  pub star-codes : map (tokenOf p) (k ++ (3 ∷ [])) ≡ tokens (star y)
+  pub star-codes : (how : Manner) → map (tokenOf p) (k ++ (starOf how ∷ [])) ≡ tokens (star how y)
   unfolding tokens
-  star-codes = map-append (tokenOf p) k (3 ∷ []) ∙ ap (λ l. l ++ (Tokens.many ∷ [])) h
+  star-codes how = map-append (tokenOf p) k (starOf how ∷ []) ∙ ap₂ (λ l t. l ++ (t ∷ [])) h (map-star p how)
 
   -- A bracket after n others: the ninth and those after it leave the part as it is.
   pub field-codes : (n : ℕ) → n < maxFields → map (tokenOf p) (k ++ ((firstField + n) ∷ [])) ≡ tokens (bracketed n y)
@@ -120,35 +136,39 @@ module _ (p k : List ℕ) (y : Re) (h : map (tokenOf p) k ≡ tokens y) where
       ∙ sym (tokens-copies m y y)
       ∙ ap (λ l. tokens (chain l)) (replicate-more m y)
 
-  pub atLeast-codes : (m : ℕ) → map (tokenOf p) (atLeastCodes m k) ≡ tokens (chain (replicate m y ++ (star y ∷ [])))
+  pub atLeast-codes : (how : Manner) (m : ℕ) → map (tokenOf p) (atLeastCodes how m k) ≡ tokens (chain (replicate m y ++ (star how y ∷ [])))
   unfolding tokens
-  atLeast-codes m =
-      map-blocks (tokenOf p) (suc m) k (3 ∷ replicate m 1)
-      ∙ ap (λ l. blocks (suc m) l (map (tokenOf p) (3 ∷ replicate m 1))) h
-      ∙ ap (λ l. blocks (suc m) (tokens y) (Tokens.many ∷ l)) (map-replicate (tokenOf p) m 1)
-      ∙ sym (blocks-more m (tokens y) (Tokens.many ∷ replicate m both))
-      ∙ ap (blocks m (tokens y)) (sym (append-assoc (tokens y) (Tokens.many ∷ []) (replicate m both)))
-      ∙ sym (tokens-copies m y (star y))
+  atLeast-codes how m =
+      map-blocks (tokenOf p) (suc m) k (starOf how ∷ replicate m 1)
+      ∙ ap (λ l. blocks (suc m) l (map (tokenOf p) (starOf how ∷ replicate m 1))) h
+      ∙ ap₂ (λ t l. blocks (suc m) (tokens y) (t ∷ l)) (map-star p how) (map-replicate (tokenOf p) m 1)
+      ∙ sym (blocks-more m (tokens y) (Tokens.many how ∷ replicate m both))
+      ∙ ap (blocks m (tokens y)) (sym (append-assoc (tokens y) (Tokens.many how ∷ []) (replicate m both)))
+      ∙ sym (tokens-copies m y (star how y))
 
-  pub between-codes : (m i : ℕ) → map (tokenOf p) (betweenCodes m i k) ≡ tokens (chain (replicate m y ++ optional i y))
+  pub between-codes : (how : Manner) (m i : ℕ) → map (tokenOf p) (betweenCodes how m i k) ≡ tokens (chain (replicate m y ++ optional how i y))
   unfolding optional
-  between-codes m zero = exactly-codes m ∙ ap (λ l. tokens (chain l)) (sym (append-nil (replicate m y)))
-  between-codes m (suc i) =
-      map-blocks (tokenOf p) m k (blocks (suc i) k ((0 ∷ 2 ∷ closeCodes i) ++ replicate m 1))
-      ∙ ap (λ l. blocks m l (map (tokenOf p) (blocks (suc i) k ((0 ∷ 2 ∷ closeCodes i) ++ replicate m 1)))) h
+  between-codes how m zero = exactly-codes m ∙ ap (λ l. tokens (chain l)) (sym (append-nil (replicate m y)))
+  between-codes how m (suc i) =
+      map-blocks (tokenOf p) m k (blocks (suc i) (leadCodes how ++ k) ending)
+      ∙ ap (λ l. blocks m l (map (tokenOf p) (blocks (suc i) (leadCodes how ++ k) ending))) h
       ∙ ap (blocks m (tokens y)) inner
-      ∙ sym (tokens-copies m y (opt (chain (y ∷ optional i y))))
+      ∙ sym (tokens-copies m y (opt how (chain (y ∷ optional how i y))))
     where
-      ending : map (tokenOf p) ((0 ∷ 2 ∷ closeCodes i) ++ replicate m 1) ≡ (nil ∷ or ∷ closes i) ++ replicate m both
-      ending =
-          map-append (tokenOf p) (0 ∷ 2 ∷ closeCodes i) (replicate m 1)
-          ∙ ap (λ l. (nil ∷ or ∷ l) ++ map (tokenOf p) (replicate m 1)) (map-closes p i)
-          ∙ ap (λ l. (nil ∷ or ∷ closes i) ++ l) (map-replicate (tokenOf p) m 1)
+      ending : List ℕ
+      ending = (shutCodes how ++ closeCodes how i) ++ replicate m 1
 
-      inner : map (tokenOf p) (blocks (suc i) k ((0 ∷ 2 ∷ closeCodes i) ++ replicate m 1)) ≡ tokens (opt (chain (y ∷ optional i y))) ++ replicate m both
+      ended : map (tokenOf p) ending ≡ (shut how ++ closes how i) ++ replicate m both
+      ended =
+          map-append (tokenOf p) (shutCodes how ++ closeCodes how i) (replicate m 1)
+          ∙ ap₂ _++_ (map-append (tokenOf p) (shutCodes how) (closeCodes how i) ∙ ap₂ _++_ (map-shut p how) (map-closes p how i)) (map-replicate (tokenOf p) m 1)
+
+      led : map (tokenOf p) (leadCodes how ++ k) ≡ lead how ++ tokens y
+      led = map-append (tokenOf p) (leadCodes how) k ∙ ap₂ _++_ (map-lead p how) h
+
+      inner : map (tokenOf p) (blocks (suc i) (leadCodes how ++ k) ending) ≡ tokens (opt how (chain (y ∷ optional how i y))) ++ replicate m both
       inner =
-          map-blocks (tokenOf p) (suc i) k ((0 ∷ 2 ∷ closeCodes i) ++ replicate m 1)
-          ∙ ap (λ l. blocks (suc i) l (map (tokenOf p) ((0 ∷ 2 ∷ closeCodes i) ++ replicate m 1))) h
-          ∙ ap (blocks (suc i) (tokens y)) ending
-          ∙ sym (blocks-append (suc i) (tokens y) (nil ∷ or ∷ closes i) (replicate m both))
-          ∙ ap (λ l. l ++ replicate m both) (sym (tokens-optional i y))
+          map-blocks (tokenOf p) (suc i) (leadCodes how ++ k) ending
+          ∙ ap₂ (blocks (suc i)) led ended
+          ∙ sym (blocks-append (suc i) (lead how ++ tokens y) (shut how ++ closes how i) (replicate m both))
+          ∙ ap (λ l. l ++ replicate m both) (sym (tokens-optional how i y))

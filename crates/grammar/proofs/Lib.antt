@@ -14,3 +14,5 @@ pub mod Openings
 pub mod Tokens
 pub mod Suffix
 pub mod Codes
+-- What does not depend on the signs of lazy repeats.
+pub mod Eager

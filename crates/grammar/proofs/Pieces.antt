@@ -7,8 +7,7 @@ use mathlib.Core.List.{List, [], _∷_, _++_}
 use native.Mathlib.Omega.{arith}
 use lib.ListN.{length}
 use lib.Dec.{T, eqb, leb, eqb→eq}
-use Rattle.grammar.specs.Grammar.{Byte, plain, escaped, Name, alpha, digit, alnum, upper, lower, xdigit, space, punct, Item, single, range, named, Digits, one, two, Repeat, once, many, more, maybe, exactly, atLeast, between, Atom, class, Inside, usual, backslash, closing, opening, caret, dash, inside, marked, byteText, namedText, itemText, itemsText, caretText, classText, digitsText, repeatText, WfInner, WfItem, WfItems, WfDigits, WfRepeat, value, isDigit, counts}
-use Rattle.grammar.specs.Before.{isOnce}
+use Rattle.grammar.specs.Grammar.{Byte, plain, escaped, Name, alpha, digit, alnum, upper, lower, xdigit, space, punct, Item, single, range, named, Digits, one, two, Repeat, once, many, more, maybe, exactly, atLeast, between, lazily, unmarked, Atom, class, Inside, usual, backslash, closing, opening, caret, dash, inside, marked, byteText, namedText, itemText, itemsText, caretText, classText, digitsText, repeatText, WfInner, WfItem, WfItems, WfDigits, WfRepeat, value, isDigit, counts}
 use Rattle.grammar.specs.Code.Reader.{Parsed, found, missing, andThen, orElse, only, strip, readEscaped, innerBy, readInner, readNamed, rangeBy, readRange, itemBy, readItem, isClosing, readItems, readListed, isCaret, readClass, secondDigit, readDigits, readEnd, readSecond, readComma, readCount}
 use Rattle.grammar.specs.Sets.{names}
 use Rattle.grammar.proofs.Texts.{InsideOk, inside-ok, len-items}
@@ -288,7 +287,7 @@ abbrev DigitsAt : List ℕ → Digits → List ℕ → Type 0
 DigitsAt s m r = WfDigits m × (digitsText m r ≡ s)
 
 abbrev pub CountIs : List ℕ → Repeat → List ℕ → Type 0
-CountIs s x r = WfRepeat x × (isOnce x ≡ false) × (repeatText x r ≡ s)
+CountIs s x r = WfRepeat x × (unmarked x ≡ true) × (repeatText x r ≡ s)
 
 digits-sound : (s : List ℕ) → Sound (DigitsAt s) (readDigits s)
 digits-sound [] = tt
@@ -334,7 +333,7 @@ digits-complete (one b) [] w h = rw w refl
 digits-complete (one b) (c ∷ s) w h = rw (w, h) refl
 digits-complete (two b c) s w h = rw (w .0, w .1) refl
 
-pub count-complete : (x : Repeat) (s : List ℕ) → WfRepeat x → (t : List ℕ) → repeatText x s ≡ 123 ∷ t → isOnce x ≡ false → readCount t ≡ found x s
+pub count-complete : (x : Repeat) (s : List ℕ) → WfRepeat x → (t : List ℕ) → repeatText x s ≡ 123 ∷ t → unmarked x ≡ true → readCount t ≡ found x s
 count-complete once s w t e h = let z : _≡_ {A = ℕ} 0 1 = cc in absurd (omega arith)
 count-complete many s w t e h = let z : _≡_ {A = ℕ} 42 123 = cc in absurd (omega arith)
 count-complete more s w t e h = let z : _≡_ {A = ℕ} 43 123 = cc in absurd (omega arith)
@@ -348,3 +347,4 @@ count-complete (atLeast m) s w t e h =
 count-complete (between m n) s w t e h =
     let u : digitsText m (44 ∷ digitsText n (125 ∷ s)) ≡ t = cc in
     rw (← u, digits-complete m (44 ∷ digitsText n (125 ∷ s)) (w .0) refl, digits-complete n (125 ∷ s) (w .1) refl, w .2) refl
+count-complete (lazily x) s w t e h = let z : _≡_ {A = ℕ} 0 1 = cc in absurd (omega arith)

@@ -6,7 +6,7 @@ use mathlib.Core.Bool.{true, false}
 use mathlib.Core.List.{List, [], _∷_, _++_, append-assoc, append-nil}
 use native.Mathlib.Omega.{arith}
 use lib.ListN.{length, length-append}
-use Rattle.grammar.specs.Grammar.{Byte, plain, escaped, Item, single, range, named, Digits, one, two, Repeat, once, many, more, maybe, exactly, atLeast, between, Alternation, last, or, Sequence, nothing, part, Atom, byte, dot, class, group, byteText, namedText, itemText, itemsText, digitsText, repeatText, alternation, sequence, atom, WfAlternation, WfSequence}
+use Rattle.grammar.specs.Grammar.{Byte, plain, escaped, Item, single, range, named, Digits, one, two, Repeat, once, many, more, maybe, exactly, atLeast, between, lazily, Alternation, last, or, Sequence, nothing, part, Atom, byte, dot, class, group, byteText, namedText, itemText, itemsText, digitsText, repeatText, alternation, sequence, atom, WfAlternation, WfSequence}
 use Rattle.grammar.specs.Limits.{depth, depthSequence}
 use Rattle.grammar.specs.Before.{Before, start, barred, opened, after, text, opens, WfBefore}
 use Rattle.grammar.proofs.Unique.{afterSequence, afterAlternation, opens-sequence}
@@ -51,6 +51,7 @@ repeat-leads (between m n) =
     let last = then (digitsText n) (λ s. 125 ∷ s) (digits-leads n) (λ s. refl) in
     mark 123 (λ s. digitsText m (44 ∷ digitsText n (125 ∷ s)))
     (then (digitsText m) (λ s. 44 ∷ digitsText n (125 ∷ s)) (digits-leads m) (mark 44 (λ s. digitsText n (125 ∷ s)) last))
+repeat-leads (lazily r) = then (repeatText r) (λ s. 63 ∷ s) (repeat-leads r) (λ s. refl)
 
 class-leads : (x : Item) (l : List Item) → Leads (λ s. itemText x (itemsText l (93 ∷ s)))
 class-leads x l = then (itemText x) (λ s. itemsText l (93 ∷ s)) (item-leads x) (then (itemsText l) (λ s. 93 ∷ s) (items-leads l) (λ s. refl))

@@ -8,13 +8,13 @@ use native.Mathlib.Omega.{arith}
 use native.Mathlib.Nat.{zero-mul, suc-mul, one-mul, mul-add, add-mul, mul-assoc, mul-le-mul-left, mul-le-mul-right}
 use lib.ListN.{replicate}
 use lib.Dec.{leb, leb→le, ltb, ltb→lt, T}
-use Rattle.theory.specs.Pattern.{Re, empty, leaf, seq, alt, star, field, count, Numbered, number}
+use Rattle.theory.specs.Pattern.{Manner, eager, lazy, Re, empty, leaf, seq, alt, star, field, opt, count, Numbered, number}
 use Rattle.theory.proofs.Numbering.{number-count, number-right}
-use Rattle.grammar.specs.Grammar.{Digits, digitsValue, Repeat, once, many, more, maybe, exactly, atLeast, between, Alternation, last, or, Sequence, nothing, part, Atom, byte, dot, class, group, WfAlternation, WfSequence, WfAtom, WfRepeat}
+use Rattle.grammar.specs.Grammar.{Digits, digitsValue, Repeat, once, many, more, maybe, exactly, atLeast, between, lazily, Alternation, last, or, Sequence, nothing, part, Atom, byte, dot, class, group, WfAlternation, WfSequence, WfAtom, WfRepeat}
 use Rattle.grammar.specs.Limits.{depth, depthSequence, depthAtom, times, repeated, weight, weights, weightAtom, heaviest, Reads}
 use Rattle.grammar.specs.Brackets.{bracketsWithin, bracketsAtom, maxFields}
 use Rattle.grammar.specs.Code.Tokens.{nodes, maxParts}
-use Rattle.grammar.specs.WriteOut.{chain, optional, repeatOf, bracketed, shape, parts, shapeAtom, writeOut}
+use Rattle.grammar.specs.WriteOut.{chain, optional, repeatBy, bracketed, shape, parts, shapeAtom, writeOut}
 
 pub writeOut-numbered : (t : Alternation) → Numbered 0 (writeOut t)
 unfolding writeOut
@@ -26,7 +26,7 @@ number-nodes n empty = refl
 number-nodes n (leaf p s) = refl
 number-nodes n (seq x y) = rw (number-nodes n x, number-nodes (n + count x) y)
 number-nodes n (alt x y) = rw (number-nodes n x, number-nodes (n + count x) y)
-number-nodes n (star x) = rw (number-nodes n x)
+number-nodes n (star how x) = rw (number-nodes n x)
 number-nodes n (field f x) = rw (number-nodes n x)
 
 -- A measure that a sequence adds up: the leaves (with e = 0), and the nodes with one more for each part.
@@ -54,10 +54,15 @@ unfolding leaves
 leaves-copies zero x = sym (zero-mul (count x))
 leaves-copies (suc n) x = omega (arith, leaves-copies n x, suc-mul n (count x))
 
-leaves-optional : (k : ℕ) (x : Re) → leaves (optional k x) ≡ k * count x
+count-opt : (how : Manner) (x : Re) → count (opt how x) ≡ count x
+unfolding count
+count-opt eager x = omega arith
+count-opt lazy x = omega arith
+
+leaves-optional : (how : Manner) (k : ℕ) (x : Re) → leaves (optional how k x) ≡ k * count x
 unfolding leaves optional count
-leaves-optional zero x = sym (zero-mul (count x))
-leaves-optional (suc k) x = omega (arith, count-chain x (optional k x), leaves-optional k x, suc-mul k (count x))
+leaves-optional how zero x = sym (zero-mul (count x))
+leaves-optional how (suc k) x = omega (arith, count-opt how (chain (x ∷ optional how k x)), count-chain x (optional how k x), leaves-optional how k x, suc-mul k (count x))
 
 times-le : (n c w : ℕ) → c ≤ w → n * c ≤ times n w
 times-le zero c w h = omega (arith, zero-mul c)
@@ -70,19 +75,20 @@ both false b e = let z : _≡_ {A = ℕ} 0 1 = cc in absurd (omega arith)
 count-sum : (m n : Digits) → WfRepeat (between m n) → digitsValue m + (digitsValue n - digitsValue m) ≡ digitsValue n
 count-sum m n v = omega (arith, leb→le (digitsValue m) (digitsValue n) (both (leb (digitsValue m) (digitsValue n)) (leb (digitsValue n) 63) (v .2)))
 
-count-repeat : (r : Repeat) (x : Re) (w : ℕ) → WfRepeat r → count x ≤ w → count (repeatOf r x) ≤ repeated r w
+count-repeat : (how : Manner) (r : Repeat) (x : Re) (w : ℕ) → WfRepeat r → count x ≤ w → count (repeatBy how r x) ≤ repeated r w
 unfolding count leaves
-count-repeat once x w v h = h
-count-repeat many x w v h = h
-count-repeat more x w v h = omega (arith, count-chain x (star x ∷ []))
-count-repeat maybe x w v h = omega arith
-count-repeat (exactly m) x w v h = rw (count-chain-le (replicate (digitsValue m) x), leaves-copies (digitsValue m) x) (times-le (digitsValue m) (count x) w h)
-count-repeat (atLeast m) x w v h =
-    rw (count-chain-le (replicate (digitsValue m) x ++ (star x ∷ [])), leaves-append (replicate (digitsValue m) x) (star x ∷ []), leaves-copies (digitsValue m) x)
+count-repeat how once x w v h = h
+count-repeat how many x w v h = h
+count-repeat how more x w v h = omega (arith, count-chain x (star how x ∷ []))
+count-repeat how maybe x w v h = omega (arith, count-opt how x)
+count-repeat how (exactly m) x w v h = rw (count-chain-le (replicate (digitsValue m) x), leaves-copies (digitsValue m) x) (times-le (digitsValue m) (count x) w h)
+count-repeat how (atLeast m) x w v h =
+    rw (count-chain-le (replicate (digitsValue m) x ++ (star how x ∷ [])), leaves-append (replicate (digitsValue m) x) (star how x ∷ []), leaves-copies (digitsValue m) x)
     (omega (arith, mul-le-mul-left (suc (digitsValue m)) h, suc-mul (digitsValue m) (count x)))
-count-repeat (between m n) x w v h =
-    rw (count-chain-le (replicate (digitsValue m) x ++ optional (digitsValue n - digitsValue m) x), leaves-append (replicate (digitsValue m) x) (optional (digitsValue n - digitsValue m) x), leaves-copies (digitsValue m) x, leaves-optional (digitsValue n - digitsValue m) x)
+count-repeat how (between m n) x w v h =
+    rw (count-chain-le (replicate (digitsValue m) x ++ optional how (digitsValue n - digitsValue m) x), leaves-append (replicate (digitsValue m) x) (optional how (digitsValue n - digitsValue m) x), leaves-copies (digitsValue m) x, leaves-optional how (digitsValue n - digitsValue m) x)
     (omega (arith, times-le (digitsValue n) (count x) w h, add-mul (digitsValue m) (digitsValue n - digitsValue m) (count x), ap (λ k. k * count x) (count-sum m n v)))
+count-repeat how (lazily r) x w v h = count-repeat lazy r x w (v .0) h
 
 weight-pos : (t : Alternation) → 1 ≤ weight t
 unfolding weight
@@ -106,7 +112,7 @@ mutual
 
   count-parts : (q : Sequence) (n : ℕ) → WfSequence q → leaves (parts q n) ≤ weights q
   count-parts nothing n w = omega arith
-  count-parts (part a r q) n w = omega (arith, count-repeat r (shapeAtom a n) (weightAtom a) (w .1) (count-atom a n (w .0)), count-parts q (n + bracketsAtom a) (w .2))
+  count-parts (part a r q) n w = omega (arith, count-repeat eager r (shapeAtom a n) (weightAtom a) (w .1) (count-atom a n (w .0)), count-parts q (n + bracketsAtom a) (w .2))
 
   count-atom : (a : Atom) (n : ℕ) → WfAtom a → count (shapeAtom a n) ≤ weightAtom a
   count-atom (byte x) n w = omega arith
@@ -148,49 +154,55 @@ unfolding sizes
 sizes-copies zero x = sym (zero-mul (suc (nodes x)))
 sizes-copies (suc n) x = omega (arith, sizes-copies n x, suc-mul n (suc (nodes x)))
 
-sizes-optional : (k : ℕ) (x : Re) → sizes (optional k x) ≡ k * (suc (nodes x) + 2)
+nodes-opt : (how : Manner) (x : Re) → nodes (opt how x) ≡ nodes x + 2
+unfolding nodes
+nodes-opt eager x = omega arith
+nodes-opt lazy x = omega arith
+
+sizes-optional : (how : Manner) (k : ℕ) (x : Re) → sizes (optional how k x) ≡ k * (suc (nodes x) + 2)
 unfolding sizes optional nodes
-sizes-optional zero x = sym (zero-mul (suc (nodes x) + 2))
-sizes-optional (suc k) x = omega (arith, nodes-chain x (optional k x), sizes-optional k x, suc-mul k (suc (nodes x) + 2))
+sizes-optional how zero x = sym (zero-mul (suc (nodes x) + 2))
+sizes-optional how (suc k) x = omega (arith, nodes-opt how (chain (x ∷ optional how k x)), nodes-chain x (optional how k x), sizes-optional how k x, suc-mul k (suc (nodes x) + 2))
 
 -- n copies against their weight k times.
 copies-le : (n c w k : ℕ) → c ≤ w * k → 2 ≤ w * k → 2 ≤ k → max 2 (n * c) ≤ times n w * k
 copies-le zero c w k h d e = omega (arith, zero-mul c, one-mul k)
 copies-le (suc n) c w k h d e = omega (arith, mul-assoc (suc n) w k, mul-le-mul-left (suc n) h, suc-mul n (w * k))
 
-nodes-repeat : (r : Repeat) (x : Re) (w k : ℕ) → WfRepeat r → suc (nodes x) + 2 ≤ w * k → 2 ≤ k → suc (nodes (repeatOf r x)) ≤ repeated r w * k
+nodes-repeat : (how : Manner) (r : Repeat) (x : Re) (w k : ℕ) → WfRepeat r → suc (nodes x) + 2 ≤ w * k → 2 ≤ k → suc (nodes (repeatBy how r x)) ≤ repeated r w * k
 unfolding nodes sizes
-nodes-repeat once x w k v h e = omega arith
-nodes-repeat many x w k v h e = omega arith
-nodes-repeat more x w k v h e = omega (arith, nodes-chain x (star x ∷ []), mul-assoc 2 w k)
-nodes-repeat maybe x w k v h e = omega arith
-nodes-repeat (exactly m) x w k v h e =
+nodes-repeat how once x w k v h e = omega arith
+nodes-repeat how many x w k v h e = omega arith
+nodes-repeat how more x w k v h e = omega (arith, nodes-chain x (star how x ∷ []), mul-assoc 2 w k)
+nodes-repeat how maybe x w k v h e = omega (arith, nodes-opt how x)
+nodes-repeat how (exactly m) x w k v h e =
     let d : suc (nodes x) ≤ w * k = omega arith in
     omega (arith, nodes-chain-le (replicate (digitsValue m) x), sizes-copies (digitsValue m) x, copies-le (digitsValue m) (suc (nodes x)) w k d (omega arith) e)
-nodes-repeat (atLeast m) x w k v h e =
+nodes-repeat how (atLeast m) x w k v h e =
     let d : suc (nodes x) ≤ w * k = omega arith in
     omega (
       arith,
-      nodes-chain-le (replicate (digitsValue m) x ++ (star x ∷ [])),
-      sizes-append (replicate (digitsValue m) x) (star x ∷ []),
+      nodes-chain-le (replicate (digitsValue m) x ++ (star how x ∷ [])),
+      sizes-append (replicate (digitsValue m) x) (star how x ∷ []),
       sizes-copies (digitsValue m) x,
       mul-le-mul-left (digitsValue m) d,
       mul-assoc (suc (digitsValue m)) w k,
       suc-mul (digitsValue m) (w * k),
     )
-nodes-repeat (between m n) x w k v h e =
+nodes-repeat how (between m n) x w k v h e =
     let d : suc (nodes x) ≤ suc (nodes x) + 2 = omega arith in
     omega (
       arith,
-      nodes-chain-le (replicate (digitsValue m) x ++ optional (digitsValue n - digitsValue m) x),
-      sizes-append (replicate (digitsValue m) x) (optional (digitsValue n - digitsValue m) x),
+      nodes-chain-le (replicate (digitsValue m) x ++ optional how (digitsValue n - digitsValue m) x),
+      sizes-append (replicate (digitsValue m) x) (optional how (digitsValue n - digitsValue m) x),
       sizes-copies (digitsValue m) x,
-      sizes-optional (digitsValue n - digitsValue m) x,
+      sizes-optional how (digitsValue n - digitsValue m) x,
       mul-le-mul-left (digitsValue m) d,
       add-mul (digitsValue m) (digitsValue n - digitsValue m) (suc (nodes x) + 2),
       ap (λ j. j * (suc (nodes x) + 2)) (count-sum m n v),
       copies-le (digitsValue n) (suc (nodes x) + 2) w k h (omega arith) e,
     )
+nodes-repeat how (lazily r) x w k v h e = nodes-repeat lazy r x w k (v .0) h e
 
 at-least : (w k : ℕ) → max k (w * k) ≤ max 1 w * k
 at-least w k =
@@ -244,7 +256,7 @@ mutual
   nodes-parts (part a r q) d n w h =
       omega (
         arith,
-        nodes-repeat r (shapeAtom a n) (weightAtom a) (share d n) (w .1) (nodes-atom a d n (w .0) (omega arith)) (omega arith),
+        nodes-repeat eager r (shapeAtom a n) (weightAtom a) (share d n) (w .1) (nodes-atom a d n (w .0) (omega arith)) (omega arith),
         nodes-parts q d (n + bracketsAtom a) (w .2) (omega arith),
         fewer (weights q) d n (bracketsAtom a),
         add-mul (repeated r (weightAtom a)) (weights q) (share d n),

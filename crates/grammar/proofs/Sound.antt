@@ -1,17 +1,18 @@
 -- The reader's answer is right.
 -- Assumes nothing.
-use mathlib.Core.Path.{_≡_, refl, sym, ap, _∙_}
+use mathlib.Core.Path.{_≡_, refl, sym, ap, _∙_, subst}
 use Prim.Native.Nat.{ℕ, zero, suc, _+_, _≤_, max}
-use mathlib.Core.Bool.{Bool, true, false, cond, not}
+use mathlib.Core.Bool.{Bool, true, false, cond, not, _&&_}
 use mathlib.Core.List.{List, [], _∷_}
 use native.Mathlib.Omega.{arith}
 use lib.ListN.{length}
 use lib.Dec.{T, leb, ltb, leb→le, nleb→lt, ltb→lt, nltb→le}
-use Rattle.grammar.specs.Grammar.{escaped, Item, Repeat, once, many, more, maybe, exactly, atLeast, between, Alternation, last, or, nothing, Atom, byte, class, Kind, ordinary, backslash, bar, opener, closer, bracket, brace, period, stray, sign, kind, special, classText, itemText, itemsText, caretText, repeatText, alternation, atom, WfAlternation, WfAtom, WfRepeat}
+use Rattle.grammar.specs.Grammar.{escaped, Item, Repeat, once, many, more, maybe, exactly, atLeast, between, lazily, unmarked, Alternation, last, or, nothing, Atom, byte, class, Kind, ordinary, backslash, bar, opener, closer, bracket, brace, period, stray, sign, kind, special, classText, itemText, itemsText, caretText, repeatText, alternation, atom, WfAlternation, WfAtom, WfRepeat}
 use Rattle.grammar.specs.Limits.{depth, depthAtom, heaviest}
-use Rattle.grammar.specs.Before.{Before, start, barred, opened, after, text, opens, isOnce, ready, WfBefore}
-use Rattle.grammar.specs.Code.Reader.{Parsed, found, missing, readClass, readCount, Gathered, whole, within, front, gather, Move, on, stop, put, escape, addAtom, addCount, addGroup, step, place, ended, moved, loop, read}
+use Rattle.grammar.specs.Before.{Before, start, barred, opened, after, text, opens, isOnce, ready, softens, WfBefore}
+use Rattle.grammar.specs.Code.Reader.{Parsed, found, missing, readClass, readCount, Gathered, whole, within, front, gather, Move, on, stop, put, soften, isMaybe, escape, addAtom, addCount, addGroup, step, place, ended, moved, loop, read}
 use Rattle.grammar.specs.Refusals.{accepted, refused, ClassAt, CountAt, Wrong, unopened, bare, unreadySign, unreadyCount, escapeLast, escapeOrdinary, noClass, noCount, tooDeep, leftOpen, tooLong, wrong, tooHeavy, Right}
+use Rattle.theory.proofs.Tests.{T-true, and-split}
 use Rattle.grammar.proofs.Texts.{KindOk, kind-ok, len-item, len-items, len-repeat}
 use Rattle.grammar.proofs.Pieces.{Sound, ClassIs, class-sound, class-complete, CountIs, count-sound, count-complete}
 
@@ -74,6 +75,24 @@ put-ok (after o a y) x r e w v = ((w .0, w .1, v, w .3), go y e)
     go (exactly m) e = let z : _≡_ {A = ℕ} 0 1 = cc in absurd (omega arith)
     go (atLeast m) e = let z : _≡_ {A = ℕ} 0 1 = cc in absurd (omega arith)
     go (between m n) e = let z : _≡_ {A = ℕ} 0 1 = cc in absurd (omega arith)
+    go (lazily y) e = let z : _≡_ {A = ℕ} 0 1 = cc in absurd (omega arith)
+
+-- A `?` after a repeat that has none.
+soften-ok : (o : Before) (r : List ℕ) → T (softens o) → WfBefore o → WfBefore (soften o) × (text (soften o) r ≡ text o (63 ∷ r))
+soften-ok start r e w = absurd e
+soften-ok (barred o) r e w = absurd e
+soften-ok (opened o) r e w = absurd e
+soften-ok (after o a x) r e w = ((w .0, w .1, (w .2, T-true (unmarked x) e), w .3), refl)
+
+is-maybe : (x : Repeat) → T (isMaybe x) → x ≡ maybe
+is-maybe once t = absurd t
+is-maybe many t = absurd t
+is-maybe more t = absurd t
+is-maybe maybe t = refl
+is-maybe (exactly m) t = absurd t
+is-maybe (atLeast m) t = absurd t
+is-maybe (between m n) t = absurd t
+is-maybe (lazily x) t = absurd t
 
 -- The brackets open are at most 16.
 pub opens-max : (o : Before) → WfBefore o → opens o ≤ 16
@@ -145,9 +164,17 @@ step-ok o b s w = go (kind b) refl (kind-ok b)
     counted true e h = rw h (count-ok o s w e)
     counted false e h = rw h (unreadyCount s e)
 
-    signed : (x : Repeat) (c : Bool) → ready o ≡ c → kind b ≡ sign x → KindOk b (sign x) → StepOk o b s (cond c (on (put o x) s) (stop 2))
+    softened : (x : Repeat) (c : Bool) → isMaybe x && softens o ≡ c → ready o ≡ false → kind b ≡ sign x → KindOk b (sign x) → StepOk o b s (cond c (on (soften o) s) (stop 2))
+    softened x true u e d h =
+        let (m, t) = and-split (isMaybe x) (softens o) (true-T (isMaybe x && softens o) u) in
+        let k = soften-ok o s t w in
+        let q : repeatText maybe s ≡ b ∷ s = subst (λ y. repeatText y s ≡ b ∷ s) (is-maybe x m) (h .2 s) in
+        (k .0, k .1 ∙ ap (text o) q, omega arith)
+    softened x false u e d h = unreadySign b x s d e λ q. subst (λ y. isMaybe y && softens o ≡ false) q u
+
+    signed : (x : Repeat) (c : Bool) → ready o ≡ c → kind b ≡ sign x → KindOk b (sign x) → StepOk o b s (cond c (on (put o x) s) (cond (isMaybe x && softens o) (on (soften o) s) (stop 2)))
     signed x true e d h = let k = put-ok o x s e w (h .0) in (k .0, k .1 ∙ ap (text o) (h .2 s), omega arith)
-    signed x false e d h = unreadySign b x s d e
+    signed x false e d h = softened x (isMaybe x && softens o) refl e d h
 
     go : (k : Kind) → kind b ≡ k → KindOk b k → StepOk o b s (step k o b s)
     go ordinary e h = ((w, e, tt, omega (arith, opens-max o w)), refl, omega arith)

@@ -4,7 +4,7 @@ use mathlib.Core.Path.{_≡_, refl, sym, ap, _∙_}
 use Prim.Native.Nat.{ℕ, zero, suc}
 use mathlib.Core.List.{List, [], _∷_, _++_, append-assoc, append-nil}
 use lib.ListN.{replicate}
-use Rattle.theory.specs.Pattern.{Re, opt}
+use Rattle.theory.specs.Pattern.{Manner, eager, lazy, Re, opt}
 use Rattle.grammar.specs.WriteOut.{chain, optional}
 use Rattle.grammar.specs.Code.Tokens.{blocks, Token, nil, both, or, tokens}
 
@@ -12,25 +12,41 @@ pub blocks-append : {A : Type 0} (n : ℕ) (b z w : List A) → blocks n b z ++ 
 blocks-append zero b z w = refl
 blocks-append (suc n) b z w = append-assoc b (blocks n b z) w ∙ ap (λ l. b ++ l) (blocks-append n b z w)
 
+-- What stands before and after an optional copy.
+abbrev pub lead : Manner → List Token
+lead eager = []
+lead lazy = nil ∷ []
+
+abbrev pub shut : Manner → List Token
+shut eager = nil ∷ or ∷ []
+shut lazy = or ∷ []
+
+tokens-opt : (how : Manner) (x : Re) → tokens (opt how x) ≡ lead how ++ (tokens x ++ shut how)
+unfolding tokens
+tokens-opt eager x = refl
+tokens-opt lazy x = refl
+
 -- The ends of optional copies but the innermost.
-abbrev pub closes : ℕ → List Token
-closes zero = []
-closes (suc k) = both ∷ nil ∷ or ∷ closes k
+abbrev pub closes : Manner → ℕ → List Token
+closes how zero = []
+closes how (suc k) = both ∷ shut how ++ closes how k
 
-closes-more : (k : ℕ) → closes k ++ (both ∷ nil ∷ or ∷ []) ≡ closes (suc k)
-closes-more zero = refl
-closes-more (suc k) = ap (λ l. both ∷ nil ∷ or ∷ l) (closes-more k)
+closes-more : (how : Manner) (k : ℕ) → closes how k ++ (both ∷ shut how) ≡ closes how (suc k)
+closes-more how zero = ap (λ l. both ∷ l) (sym (append-nil (shut how)))
+closes-more how (suc k) = ap (λ l. both ∷ l) (append-assoc (shut how) (closes how k) (both ∷ shut how) ∙ ap (λ l. shut how ++ l) (closes-more how k))
 
-pub tokens-optional : (k : ℕ) (x : Re) → tokens (opt (chain (x ∷ optional k x))) ≡ blocks (suc k) (tokens x) (nil ∷ or ∷ closes k)
+pub tokens-optional : (how : Manner) (k : ℕ) (x : Re) → tokens (opt how (chain (x ∷ optional how k x))) ≡ blocks (suc k) (lead how ++ tokens x) (shut how ++ closes how k)
 unfolding tokens chain optional
-tokens-optional zero x = refl
-tokens-optional (suc k) x =
-    append-assoc (tokens x) (tokens (opt (chain (x ∷ optional k x))) ++ (both ∷ [])) (nil ∷ or ∷ [])
-    ∙ ap (λ l. tokens x ++ l)
-    (append-assoc (tokens (opt (chain (x ∷ optional k x)))) (both ∷ []) (nil ∷ or ∷ [])
-    ∙ ap (λ l. l ++ (both ∷ nil ∷ or ∷ [])) (tokens-optional k x)
-    ∙ blocks-append (suc k) (tokens x) (nil ∷ or ∷ closes k) (both ∷ nil ∷ or ∷ [])
-    ∙ ap (λ l. blocks (suc k) (tokens x) (nil ∷ or ∷ l)) (closes-more k))
+tokens-optional how zero x = tokens-opt how x ∙ sym (append-assoc (lead how) (tokens x) (shut how)) ∙ ap (λ l. (lead how ++ tokens x) ++ l) (sym (append-nil (shut how)))
+tokens-optional how (suc k) x =
+    tokens-opt how (chain (x ∷ optional how (suc k) x))
+    ∙ ap (λ l. lead how ++ l) (append-assoc (tokens x) (tokens (opt how (chain (x ∷ optional how k x))) ++ (both ∷ [])) (shut how))
+    ∙ sym (append-assoc (lead how) (tokens x) ((tokens (opt how (chain (x ∷ optional how k x))) ++ (both ∷ [])) ++ shut how))
+    ∙ ap (λ l. (lead how ++ tokens x) ++ l)
+    (append-assoc (tokens (opt how (chain (x ∷ optional how k x)))) (both ∷ []) (shut how)
+    ∙ ap (λ l. l ++ (both ∷ shut how)) (tokens-optional how k x)
+    ∙ blocks-append (suc k) (lead how ++ tokens x) (shut how ++ closes how k) (both ∷ shut how)
+    ∙ ap (λ l. blocks (suc k) (lead how ++ tokens x) l) (append-assoc (shut how) (closes how k) (both ∷ shut how) ∙ ap (λ l. shut how ++ l) (closes-more how k)))
 
 -- m copies and then one more part.
 both-more : (m : ℕ) → replicate m both ++ (both ∷ []) ≡ replicate (suc m) both

@@ -7,7 +7,7 @@ use mathlib.Core.List.{List, [], _∷_}
 use native.Mathlib.Omega.{arith}
 use lib.ListN.{length}
 use lib.Dec.{T, eqb, eqb→eq}
-use Rattle.grammar.specs.Grammar.{Byte, plain, escaped, alpha, digit, alnum, upper, lower, xdigit, space, punct, Item, single, range, named, Digits, one, two, Repeat, once, many, more, maybe, exactly, atLeast, between, Kind, ordinary, backslash, bar, opener, closer, bracket, brace, period, stray, sign, kind, special, Inside, usual, closing, opening, caret, dash, inside, byteText, itemText, itemsText, digitsText, repeatText, WfRepeat}
+use Rattle.grammar.specs.Grammar.{Byte, plain, escaped, alpha, digit, alnum, upper, lower, xdigit, space, punct, Item, single, range, named, Digits, one, two, Repeat, once, many, more, maybe, exactly, atLeast, between, lazily, unmarked, Kind, ordinary, backslash, bar, opener, closer, bracket, brace, period, stray, sign, kind, special, Inside, usual, closing, opening, caret, dash, inside, byteText, itemText, itemsText, digitsText, repeatText, WfRepeat}
 use Rattle.grammar.specs.Before.{isOnce}
 
 true-T : (c : Bool) → c ≡ true → T c
@@ -31,7 +31,7 @@ KindOk b bracket = b ≡ 91
 KindOk b brace = b ≡ 123
 KindOk b period = b ≡ 46
 KindOk b stray = Unit {0}
-KindOk b (sign r) = WfRepeat r × (isOnce r ≡ false) × ((s : List ℕ) → repeatText r s ≡ b ∷ s)
+KindOk b (sign r) = WfRepeat r × (unmarked r ≡ true) × ((s : List ℕ) → repeatText r s ≡ b ∷ s)
 
 pub kind-ok : (b : ℕ) → KindOk b (kind b)
 unfolding kind
@@ -50,6 +50,17 @@ kind-ok b =
     (pick (KindOk b) b 125 stray _ (λ e. tt)
     (pick (KindOk b) b 94 stray _ (λ e. tt)
     (pick (KindOk b) b 36 stray ordinary (λ e. tt) tt)))))))))))))
+
+-- A repeat that a `?` may follow is one.
+pub not-once : (r : Repeat) → unmarked r ≡ true → isOnce r ≡ false
+not-once once e = let z : _≡_ {A = ℕ} 0 1 = cc in absurd (omega arith)
+not-once many e = refl
+not-once more e = refl
+not-once maybe e = refl
+not-once (exactly m) e = refl
+not-once (atLeast m) e = refl
+not-once (between m n) e = refl
+not-once (lazily r) e = refl
 
 -- What is not special is ordinary.
 pub ordinary-kind : (k : Kind) → special k ≡ false → k ≡ ordinary
@@ -106,7 +117,7 @@ len-digits : (m : Digits) (s : List ℕ) → suc (length s) ≤ length (digitsTe
 len-digits (one b) s = omega arith
 len-digits (two b c) s = omega arith
 
-pub len-repeat : (r : Repeat) (s : List ℕ) → isOnce r ≡ false → suc (length s) ≤ length (repeatText r s)
+pub len-repeat : (r : Repeat) (s : List ℕ) → unmarked r ≡ true → suc (length s) ≤ length (repeatText r s)
 len-repeat once s e = let z : _≡_ {A = ℕ} 0 1 = cc in absurd (omega arith)
 len-repeat many s e = omega arith
 len-repeat more s e = omega arith
@@ -114,3 +125,4 @@ len-repeat maybe s e = omega arith
 len-repeat (exactly m) s e = omega (arith, len-digits m (125 ∷ s))
 len-repeat (atLeast m) s e = omega (arith, len-digits m (44 ∷ 125 ∷ s))
 len-repeat (between m n) s e = omega (arith, len-digits m (44 ∷ digitsText n (125 ∷ s)), len-digits n (125 ∷ s))
+len-repeat (lazily r) s e = let z : _≡_ {A = ℕ} 0 1 = cc in absurd (omega arith)

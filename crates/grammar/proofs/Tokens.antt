@@ -6,7 +6,7 @@ use mathlib.Core.List.{List, [], _∷_, _++_, append-assoc, append-nil}
 use native.Mathlib.Omega.{arith}
 use lib.ListN.{length, getD, length-append}
 use lib.Seq.{getD-append-add}
-use Rattle.theory.specs.Pattern.{Re, empty, leaf, seq, alt, star, field, count, number}
+use Rattle.theory.specs.Pattern.{Manner, Re, empty, leaf, seq, alt, star, field, count, number}
 use Rattle.grammar.specs.Code.Tokens.{nodes, Token, nil, both, or, many, byte, tokens, decode, renumber, leafs}
 use Rattle.grammar.specs.Code.Tokens as Tokens
 
@@ -16,7 +16,7 @@ tokens-length empty = refl
 tokens-length (leaf p s) = refl
 tokens-length (seq x y) = omega (arith, length-append (tokens x) (tokens y ++ (both ∷ [])), length-append (tokens y) (both ∷ []), tokens-length x, tokens-length y)
 tokens-length (alt x y) = omega (arith, length-append (tokens x) (tokens y ++ (or ∷ [])), length-append (tokens y) (or ∷ []), tokens-length x, tokens-length y)
-tokens-length (star x) = omega (arith, length-append (tokens x) (many ∷ []), tokens-length x)
+tokens-length (star how x) = omega (arith, length-append (tokens x) (many how ∷ []), tokens-length x)
 tokens-length (field f x) = omega (arith, length-append (tokens x) (Tokens.field f ∷ []), tokens-length x)
 
 pub decode-tokens : (r : Re) (l : List Token) (k : List Re) → decode (tokens r ++ l) k ≡ decode l (r ∷ k)
@@ -27,7 +27,7 @@ decode-tokens (seq x y) l k =
     rw (append-assoc (tokens x) (tokens y ++ (both ∷ [])) l, append-assoc (tokens y) (both ∷ []) l, decode-tokens x (tokens y ++ (both ∷ l)) k, decode-tokens y (both ∷ l) (x ∷ k)) refl
 decode-tokens (alt x y) l k =
     rw (append-assoc (tokens x) (tokens y ++ (or ∷ [])) l, append-assoc (tokens y) (or ∷ []) l, decode-tokens x (tokens y ++ (or ∷ l)) k, decode-tokens y (or ∷ l) (x ∷ k)) refl
-decode-tokens (star x) l k = rw (append-assoc (tokens x) (many ∷ []) l, decode-tokens x (many ∷ l) k) refl
+decode-tokens (star how x) l k = rw (append-assoc (tokens x) (many how ∷ []) l, decode-tokens x (many how ∷ l) k) refl
 decode-tokens (field f x) l k = rw (append-assoc (tokens x) (Tokens.field f ∷ []) l, decode-tokens x (Tokens.field f ∷ l) k) refl
 
 pub tokens-injective : (x y : Re) → tokens x ≡ tokens y → x ≡ y
@@ -48,7 +48,7 @@ nodes-pos empty = omega arith
 nodes-pos (leaf p s) = omega arith
 nodes-pos (seq x y) = omega arith
 nodes-pos (alt x y) = omega arith
-nodes-pos (star x) = omega arith
+nodes-pos (star how x) = omega arith
 nodes-pos (field f x) = omega arith
 
 pub at-whole : (r : Re) (n : ℕ) → suc n ≡ nodes r → At (tokens r) n r
@@ -83,9 +83,9 @@ alt-left l n x y = pair-left l n x y (alt x y) or refl refl
 only-part : (l : List Token) (n : ℕ) (x r : Re) (t : Token) → tokens r ≡ tokens x ++ (t ∷ []) → nodes r ≡ suc (nodes x) → At l n r → At l (n - 1) x
 only-part l n x r t is size (at a z e h) = at a (t ∷ z) (simp append-assoc at (rw is at e)) (omega (arith, nodes-pos x))
 
-pub star-part : (l : List Token) (n : ℕ) (x : Re) → At l n (star x) → At l (n - 1) x
+pub star-part : (l : List Token) (n : ℕ) (how : Manner) (x : Re) → At l n (star how x) → At l (n - 1) x
 unfolding tokens nodes
-star-part l n x = only-part l n x (star x) many refl refl
+star-part l n how x = only-part l n x (star how x) (many how) refl refl
 
 pub field-part : (l : List Token) (n f : ℕ) (x : Re) → At l n (field f x) → At l (n - 1) x
 unfolding tokens nodes
@@ -96,7 +96,7 @@ head empty = nil
 head (leaf p s) = byte p s
 head (seq x y) = both
 head (alt x y) = or
-head (star x) = many
+head (star how x) = many how
 head (field f x) = Tokens.field f
 
 tokens-last : (r : Re) → (b : List Token) × (tokens r ≡ b ++ (head r ∷ []))
@@ -105,7 +105,7 @@ tokens-last empty = ([], refl)
 tokens-last (leaf p s) = ([], refl)
 tokens-last (seq x y) = (tokens x ++ tokens y, sym (append-assoc (tokens x) (tokens y) (both ∷ [])))
 tokens-last (alt x y) = (tokens x ++ tokens y, sym (append-assoc (tokens x) (tokens y) (or ∷ [])))
-tokens-last (star x) = (tokens x, refl)
+tokens-last (star how x) = (tokens x, refl)
 tokens-last (field f x) = (tokens x, refl)
 
 -- The part's last token is at the place.
@@ -125,7 +125,7 @@ renumber-append n [] m = let e : n ≡ n + 0 = omega arith in ap (λ k. renumber
 renumber-append n (nil ∷ l) m = ap (λ k. nil ∷ k) (renumber-append n l m)
 renumber-append n (both ∷ l) m = ap (λ k. both ∷ k) (renumber-append n l m)
 renumber-append n (or ∷ l) m = ap (λ k. or ∷ k) (renumber-append n l m)
-renumber-append n (many ∷ l) m = ap (λ k. many ∷ k) (renumber-append n l m)
+renumber-append n (many how ∷ l) m = ap (λ k. many how ∷ k) (renumber-append n l m)
 renumber-append n (Tokens.field f ∷ l) m = ap (λ k. Tokens.field f ∷ k) (renumber-append n l m)
 renumber-append n (byte p s ∷ l) m =
     let e : suc n + leafs l ≡ n + suc (leafs l) = omega arith in
@@ -137,7 +137,7 @@ leafs-append [] m = omega arith
 leafs-append (nil ∷ l) m = leafs-append l m
 leafs-append (both ∷ l) m = leafs-append l m
 leafs-append (or ∷ l) m = leafs-append l m
-leafs-append (many ∷ l) m = leafs-append l m
+leafs-append (many how ∷ l) m = leafs-append l m
 leafs-append (Tokens.field f ∷ l) m = leafs-append l m
 leafs-append (byte p s ∷ l) m = omega (arith, leafs-append l m)
 
@@ -147,7 +147,7 @@ leafs-tokens empty = refl
 leafs-tokens (leaf p s) = refl
 leafs-tokens (seq x y) = omega (arith, leafs-append (tokens x) (tokens y ++ (both ∷ [])), leafs-append (tokens y) (both ∷ []), leafs-tokens x, leafs-tokens y)
 leafs-tokens (alt x y) = omega (arith, leafs-append (tokens x) (tokens y ++ (or ∷ [])), leafs-append (tokens y) (or ∷ []), leafs-tokens x, leafs-tokens y)
-leafs-tokens (star x) = omega (arith, leafs-append (tokens x) (many ∷ []), leafs-tokens x)
+leafs-tokens (star how x) = omega (arith, leafs-append (tokens x) (many how ∷ []), leafs-tokens x)
 leafs-tokens (field f x) = omega (arith, leafs-append (tokens x) (Tokens.field f ∷ []), leafs-tokens x)
 
 pub tokens-number : (n : ℕ) (r : Re) → tokens (number n r) ≡ renumber n (tokens r)
@@ -158,5 +158,5 @@ tokens-number n (seq x y) =
     rw (renumber-append n (tokens x) (tokens y ++ (both ∷ [])), renumber-append (n + leafs (tokens x)) (tokens y) (both ∷ []), leafs-tokens x, tokens-number n x, tokens-number (n + count x) y) refl
 tokens-number n (alt x y) =
     rw (renumber-append n (tokens x) (tokens y ++ (or ∷ [])), renumber-append (n + leafs (tokens x)) (tokens y) (or ∷ []), leafs-tokens x, tokens-number n x, tokens-number (n + count x) y) refl
-tokens-number n (star x) = rw (renumber-append n (tokens x) (many ∷ []), tokens-number n x) refl
+tokens-number n (star how x) = rw (renumber-append n (tokens x) (many how ∷ []), tokens-number n x) refl
 tokens-number n (field f x) = rw (renumber-append n (tokens x) (Tokens.field f ∷ []), tokens-number n x) refl

@@ -2,17 +2,17 @@
 -- Assumes nothing.
 use mathlib.Core.Path.{_≡_, refl, ap, _∙_}
 use Prim.Native.Nat.{ℕ, zero, suc, _+_, _≤_, _<_}
-use mathlib.Core.Bool.{Bool, true, false, cond}
+use mathlib.Core.Bool.{Bool, true, false, cond, _&&_}
 use mathlib.Core.List.{List, [], _∷_}
 use native.Mathlib.Omega.{arith}
 use lib.ListN.{length}
 use lib.Dec.{leb, ltb, le→leb, lt→ltb, leb→le}
-use Rattle.grammar.specs.Grammar.{plain, escaped, Repeat, once, many, more, maybe, exactly, atLeast, between, Alternation, last, or, Sequence, nothing, part, Atom, byte, dot, class, group, Kind, ordinary, backslash, bar, opener, closer, bracket, brace, period, stray, sign, kind, special, digitsText, repeatText, alternation, sequence, atom, WfAlternation, WfSequence, WfAtom, WfRepeat}
+use Rattle.grammar.specs.Grammar.{plain, escaped, Repeat, once, many, more, maybe, exactly, atLeast, between, lazily, unmarked, Alternation, last, or, Sequence, nothing, part, Atom, byte, dot, class, group, Kind, ordinary, backslash, bar, opener, closer, bracket, brace, period, stray, sign, kind, special, digitsText, repeatText, alternation, sequence, atom, WfAlternation, WfSequence, WfAtom, WfRepeat}
 use Rattle.grammar.specs.Limits.{depth, depthSequence, depthAtom, heaviest, Reads}
-use Rattle.grammar.specs.Before.{Before, start, barred, opened, after, text, opens, ready, WfBefore}
-use Rattle.grammar.specs.Code.Reader.{Parsed, found, missing, readClass, readCount, Gathered, whole, within, front, gather, Move, on, stop, put, addAtom, addCount, addGroup, step, place, ended, moved, loop, read}
+use Rattle.grammar.specs.Before.{Before, start, barred, opened, after, text, opens, isOnce, ready, softens, WfBefore}
+use Rattle.grammar.specs.Code.Reader.{Parsed, found, missing, readClass, readCount, Gathered, whole, within, front, gather, Move, on, stop, put, soften, isMaybe, addAtom, addCount, addGroup, step, place, ended, moved, loop, read}
 use Rattle.grammar.specs.Refusals.{Answer, accepted, refused, ClassAt, CountAt, Wrong, unopened, bare, unreadySign, unreadyCount, escapeLast, escapeOrdinary, noClass, noCount, tooDeep, leftOpen, Fault, tooLong, wrong, tooHeavy, Right}
-use Rattle.grammar.proofs.Texts.{len-repeat}
+use Rattle.grammar.proofs.Texts.{len-repeat, not-once}
 use Rattle.grammar.proofs.Pieces.{Sound, ClassIs, class-sound, class-complete, CountIs, count-sound, count-complete}
 use Rattle.grammar.proofs.Sound.{len-class, opens-max, GatherOk, gather-ok}
 use Rattle.theory.proofs.Tests.{T-true, not-true}
@@ -49,7 +49,12 @@ step-short brace o b s = short-cond (ready o) s (addCount o (readCount s)) 2 (go
     go missing h = tt
 step-short period o b s = omega arith
 step-short stray o b s = tt
-step-short (sign x) o b s = short-cond (ready o) s (on (put o x) s) 2 (omega arith)
+step-short (sign x) o b s = go (ready o) (isMaybe x && softens o)
+  where
+    go : (c d : Bool) → Short s (cond c (on (put o x) s) (cond d (on (soften o) s) (stop 2)))
+    go true d = omega arith
+    go false true = omega arith
+    go false false = tt
 
 -- The number of the loop does not matter if it is large enough.
 fuel : (f g : ℕ) (o : Before) (s : List ℕ) → length s ≤ f → length s ≤ g → loop f o s ≡ loop g o s
@@ -163,6 +168,16 @@ k-63 : kind 63 ≡ sign maybe
 unfolding kind
 k-63 = refl
 
+no-softening : (x : Repeat) (c : Bool) → (x ≡ maybe → c ≡ false) → isMaybe x && c ≡ false
+no-softening once c h = refl
+no-softening many c h = refl
+no-softening more c h = refl
+no-softening maybe c h = h refl
+no-softening (exactly m) c h = refl
+no-softening (atLeast m) c h = refl
+no-softening (between m n) c h = refl
+no-softening (lazily x) c h = refl
+
 run-repeat : (o : Before) (a : Atom) (r : Repeat) (s : List ℕ) → WfRepeat r → run (after o a once) (repeatText r s) ≡ run (after o a r) s
 run-repeat o a once s w = refl
 run-repeat o a many s w = run-next (after o a once) 42 s ∙ rw k-42 refl
@@ -173,6 +188,8 @@ run-repeat o a (atLeast m) s w = run-next (after o a once) 123 (digitsText m (44
 run-repeat o a (between m n) s w =
     run-next (after o a once) 123 (digitsText m (44 ∷ digitsText n (125 ∷ s)))
     ∙ rw (k-123, count-complete (between m n) s w (digitsText m (44 ∷ digitsText n (125 ∷ s))) refl refl) refl
+run-repeat o a (lazily r) s w =
+    run-repeat o a r (63 ∷ s) (w .0) ∙ run-next (after o a r) 63 s ∙ rw (k-63, not-once r (w .1), w .1) refl
 
 run-open : (o : Before) (s : List ℕ) → opens o < 16 → run o (40 ∷ s) ≡ run (opened o) s
 run-open o s h = run-next o 40 s ∙ rw (k-40, T-true (ltb (opens o) 16) (lt→ltb (opens o) 16 h)) refl
@@ -253,7 +270,7 @@ count-missing s h = go (readCount s) (count-sound s)
 run-wrong : (o : Before) (s : List ℕ) (n : ℕ) → WfBefore o → Wrong o s n → run o s ≡ refused n (place o)
 run-wrong o s n w (unopened r e) = run-next o 41 r ∙ rw (k-41, never-within o r (gather o (last nothing)) (gathered o w) e) refl
 run-wrong o s n w (bare b r e) = run-next o b r ∙ rw e refl
-run-wrong o s n w (unreadySign b x r e d) = run-next o b r ∙ rw (e, d) refl
+run-wrong o s n w (unreadySign b x r e d h) = run-next o b r ∙ rw (e, d, no-softening x (softens o) h) refl
 run-wrong o s n w (unreadyCount r d) = run-next o 123 r ∙ rw (k-123, d) refl
 run-wrong o s n w escapeLast = run-next o 92 [] ∙ rw k-92 refl
 run-wrong o s n w (escapeOrdinary b r e) = run-next o 92 (b ∷ r) ∙ rw (k-92, e) refl

@@ -3,7 +3,7 @@
 use Prim.Native.Nat.{ℕ, suc, _+_, _≤_, _<_}
 use mathlib.Core.Bool.{Bool, true, false}
 use mathlib.Core.List.{List, _∷_}
-use Rattle.grammar.specs.Grammar.{Repeat, once, many, more, maybe, exactly, atLeast, between, repeatText, Atom, atom, WfAtom, WfRepeat}
+use Rattle.grammar.specs.Grammar.{Repeat, once, many, more, maybe, exactly, atLeast, between, lazily, unmarked, repeatText, Atom, atom, WfAtom, WfRepeat}
 use Rattle.grammar.specs.Limits.{maxDepth, depthAtom}
 
 pub data Before : Type 0 where
@@ -34,6 +34,7 @@ isOnce maybe = false
 isOnce (exactly m) = false
 isOnce (atLeast m) = false
 isOnce (between m n) = false
+isOnce (lazily r) = false
 
 -- Right after an atom: neither at the start of a sequence nor after a repeat.
 abbrev pub ready : Before → Bool
@@ -41,6 +42,13 @@ ready start = false
 ready (barred o) = false
 ready (opened o) = false
 ready (after o a r) = isOnce r
+
+-- Right after a repeat that a `?` may follow.
+abbrev pub softens : Before → Bool
+softens start = false
+softens (barred o) = false
+softens (opened o) = false
+softens (after o a r) = unmarked r
 
 -- Well-formed, and no deeper than 16.
 abbrev pub WfBefore : Before → Type 0

@@ -27,12 +27,13 @@ pub data Digits : Type 0 where
   one : ℕ → Digits
   two : ℕ → ℕ → Digits
 
--- "Repeats, at most one after an atom": none, `*`, `+`, `?`, `{m}`, `{m,}`, `{m,n}`.
+-- "Repeats, at most one after an atom": none, `*`, `+`, `?`, `{m}`, `{m,}`, `{m,n}`; and a repeat "followed by `?`" (request 5).
 pub data Repeat : Type 0 where
   once many more maybe : Repeat
   exactly : Digits → Repeat
   atLeast : Digits → Repeat
   between : Digits → Digits → Repeat
+  lazily : Repeat → Repeat
 
 -- "An alternation holds sequences, a sequence holds atoms, and an atom may hold an alternation." "A sequence may be empty."
 mutual
@@ -159,6 +160,7 @@ repeatText maybe s = 63 ∷ s
 repeatText (exactly m) s = 123 ∷ digitsText m (125 ∷ s)
 repeatText (atLeast m) s = 123 ∷ digitsText m (44 ∷ 125 ∷ s)
 repeatText (between m n) s = 123 ∷ digitsText m (44 ∷ digitsText n (125 ∷ s))
+repeatText (lazily r) s = repeatText r (63 ∷ s)
 
 -- and of the whole.
 abbrev mutual
@@ -221,6 +223,18 @@ counts maybe = true
 counts (exactly m) = leb (digitsValue m) 63
 counts (atLeast m) = leb (digitsValue m) 63
 counts (between m n) = leb (digitsValue m) (digitsValue n) && leb (digitsValue n) 63
+counts (lazily r) = counts r
+
+-- "A `?` after a repeat is thus legal once."
+abbrev pub unmarked : Repeat → Bool
+unmarked once = false
+unmarked many = true
+unmarked more = true
+unmarked maybe = true
+unmarked (exactly m) = true
+unmarked (atLeast m) = true
+unmarked (between m n) = true
+unmarked (lazily r) = false
 
 abbrev pub WfRepeat : Repeat → Type 0
 WfRepeat once = Unit {0}
@@ -230,6 +244,7 @@ WfRepeat maybe = Unit {0}
 WfRepeat (exactly m) = WfDigits m × (counts (exactly m) ≡ true)
 WfRepeat (atLeast m) = WfDigits m × (counts (atLeast m) ≡ true)
 WfRepeat (between m n) = WfDigits m × WfDigits n × (counts (between m n) ≡ true)
+WfRepeat (lazily r) = WfRepeat r × (unmarked r ≡ true)
 
 abbrev mutual
   pub WfAlternation : Alternation → Type 0

@@ -5,6 +5,7 @@ pub mod Limits
 pub mod Sets
 pub mod Brackets
 pub mod WriteOut
+pub mod Eager
 pub mod Before
 pub mod Refusals
 pub mod Code

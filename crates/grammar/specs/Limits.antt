@@ -4,7 +4,7 @@ use Prim.Native.Nat.{ℕ, zero, suc, _+_, _*_, _≤_, max}
 use mathlib.Core.List.{List, []}
 use lib.ListN.{length}
 use mathlib.Core.Path.{_≡_}
-use Rattle.grammar.specs.Grammar.{Repeat, once, many, more, maybe, exactly, atLeast, between, digitsValue, Alternation, last, or, Sequence, nothing, part, Atom, byte, dot, class, group, alternation, WfAlternation}
+use Rattle.grammar.specs.Grammar.{Repeat, once, many, more, maybe, exactly, atLeast, between, lazily, digitsValue, Alternation, last, or, Sequence, nothing, part, Atom, byte, dot, class, group, alternation, WfAlternation}
 
 -- The limits: bytes, brackets open together, weight.
 abbrev pub maxBytes : ℕ
@@ -46,6 +46,7 @@ repeated maybe w = w
 repeated (exactly m) w = times (digitsValue m) w
 repeated (atLeast m) w = suc (digitsValue m) * w
 repeated (between m n) w = times (digitsValue n) w
+repeated (lazily r) w = repeated r w
 
 -- "A leaf weighs 1, an empty sequence 1; sequences and alternations add up." A part weighs at least 1, so the largest of 1 and the sum is the sum unless there is no part.
 unfoldable mutual

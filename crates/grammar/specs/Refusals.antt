@@ -6,9 +6,9 @@ use Prim.Native.Nat.{ℕ, _≤_, _<_}
 use mathlib.Core.Bool.{Bool, true, false}
 use mathlib.Core.List.{List, [], _∷_}
 use lib.ListN.{length}
-use Rattle.grammar.specs.Grammar.{Item, Repeat, Alternation, ordinary, stray, sign, kind, classText, repeatText, WfItem, WfItems, WfRepeat, alternation, WfAlternation}
+use Rattle.grammar.specs.Grammar.{Item, Repeat, maybe, unmarked, Alternation, ordinary, stray, sign, kind, classText, repeatText, WfItem, WfItems, WfRepeat, alternation, WfAlternation}
 use Rattle.grammar.specs.Limits.{maxBytes, maxDepth, maxWeight, depth, heaviest, Reads}
-use Rattle.grammar.specs.Before.{Before, text, opens, isOnce, ready, WfBefore}
+use Rattle.grammar.specs.Before.{Before, text, opens, ready, softens, WfBefore}
 
 -- A class begins here.
 abbrev pub ClassAt : List ℕ → Type 0
@@ -16,13 +16,13 @@ ClassAt s = (c : Bool) × (x : Item) × (l : List Item) × (r : List ℕ) × WfI
 
 -- A "valid count" begins here.
 abbrev pub CountAt : List ℕ → Type 0
-CountAt s = (x : Repeat) × (r : List ℕ) × WfRepeat x × (isOnce x ≡ false) × (repeatText x r ≡ s)
+CountAt s = (x : Repeat) × (r : List ℕ) × WfRepeat x × (unmarked x ≡ true) × (repeatText x r ≡ s)
 
 -- After the beginning o, the bytes s have the fault of that number "at that byte", their first. "At one place 2 comes before 5": a `{` is 5 only where one may stand.
 pub data Wrong (o : Before) : List ℕ → ℕ → Type 0 where
   unopened : (s : List ℕ) → opens o ≡ 0 → Wrong o (41 ∷ s) 2  -- `)` without `(`
   bare : (b : ℕ) (s : List ℕ) → kind b ≡ stray → Wrong o (b ∷ s) 2  -- a bare `]`, `}`, `^` or `$`
-  unreadySign : (b : ℕ) (x : Repeat) (s : List ℕ) → kind b ≡ sign x → ready o ≡ false → Wrong o (b ∷ s) 2  -- a repeat sign ..
+  unreadySign : (b : ℕ) (x : Repeat) (s : List ℕ) → kind b ≡ sign x → ready o ≡ false → (x ≡ maybe → softens o ≡ false) → Wrong o (b ∷ s) 2  -- a repeat sign, but for the `?` of a lazy repeat ..
   unreadyCount : (s : List ℕ) → ready o ≡ false → Wrong o (123 ∷ s) 2  -- .. or `{` at the start of a sequence or after a repeat
   escapeLast : Wrong o (92 ∷ []) 3  -- `\` last
   escapeOrdinary : (b : ℕ) (s : List ℕ) → kind b ≡ ordinary → Wrong o (92 ∷ b ∷ s) 3  -- .. or before a byte that is not special

@@ -5,8 +5,8 @@ use mathlib.Core.Bool.{Bool, not, _&&_, cond}
 use mathlib.Core.List.{List, [], _∷_, _++_}
 use lib.ListN.{replicate}
 use lib.Dec.{eqb, ltb}
-use Rattle.theory.specs.Pattern.{Re, empty, leaf, seq, star, alt, field, opt, number}
-use Rattle.grammar.specs.Grammar.{value, digitsValue, Repeat, once, many, more, maybe, exactly, atLeast, between, Alternation, last, or, Sequence, nothing, part, Atom, byte, dot, class, group}
+use Rattle.theory.specs.Pattern.{Manner, eager, lazy, Re, empty, leaf, seq, star, alt, field, opt, number}
+use Rattle.grammar.specs.Grammar.{value, digitsValue, Repeat, once, many, more, maybe, exactly, atLeast, between, lazily, Alternation, last, or, Sequence, nothing, part, Atom, byte, dot, class, group}
 use Rattle.grammar.specs.Sets.{inClass}
 use Rattle.grammar.specs.Brackets.{bracketsWithin, bracketsAtom, maxFields}
 
@@ -21,19 +21,24 @@ chain (x ∷ []) = x
 chain (x ∷ y ∷ l) = seq x (chain (y ∷ l))
 
 -- "k optional copies, each inside the one before."
-unfoldable pub optional : ℕ → Re → List Re
-optional zero x = []
-optional (suc k) x = opt (chain (x ∷ optional k x)) ∷ []
+unfoldable pub optional : Manner → ℕ → Re → List Re
+optional how zero x = []
+optional how (suc k) x = opt how (chain (x ∷ optional how k x)) ∷ []
 
 -- "r`+` is r then r`*`. r`{m,}` is m copies then r`*`. r`{m,n}` is m copies, then n−m optional copies. r`{0}` is the empty sequence."
+-- A lazy repeat "prefers to leave .., and the optional copies of a count do likewise. r`+?` is r then r`*?`, and r`{m,}?` is m copies then r`*?`."
+abbrev pub repeatBy : Manner → Repeat → Re → Re
+repeatBy how once x = x
+repeatBy how many x = star how x
+repeatBy how more x = chain (x ∷ star how x ∷ [])
+repeatBy how maybe x = opt how x
+repeatBy how (exactly m) x = chain (replicate (digitsValue m) x)
+repeatBy how (atLeast m) x = chain (replicate (digitsValue m) x ++ (star how x ∷ []))
+repeatBy how (between m n) x = chain (replicate (digitsValue m) x ++ optional how (digitsValue n - digitsValue m) x)
+repeatBy how (lazily r) x = repeatBy lazy r x
+
 abbrev pub repeatOf : Repeat → Re → Re
-repeatOf once x = x
-repeatOf many x = star x
-repeatOf more x = chain (x ∷ star x ∷ [])
-repeatOf maybe x = opt x
-repeatOf (exactly m) x = chain (replicate (digitsValue m) x)
-repeatOf (atLeast m) x = chain (replicate (digitsValue m) x ++ (star x ∷ []))
-repeatOf (between m n) x = chain (replicate (digitsValue m) x ++ optional (digitsValue n - digitsValue m) x)
+repeatOf r x = repeatBy eager r x
 
 -- The bracket after n others: "field 1 is the first opening `(`, and so on". A ninth bracket and those after it are no fields.
 unfoldable pub bracketed : ℕ → Re → Re

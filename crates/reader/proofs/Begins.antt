@@ -1,24 +1,28 @@
 -- Beginnings of the pattern, and the faults that are found after one.
 -- Assumes nothing.
-use mathlib.Core.Path.{_≡_, refl, sym, ap, _∙_}
+use mathlib.Core.Path.{_≡_, refl, sym, ap, _∙_, subst}
 use mathlib.Core.Logic.{_≢_}
 use Prim.Native.Nat.{ℕ, _+_, _-_, _≤_, _<_}
 use mathlib.Core.Bool.{Bool, true, false}
 use mathlib.Core.List.{List, [], _∷_}
 use native.Mathlib.Omega.{arith}
 use native.Mathlib.Numerals.{add-one}
+use native.Mathlib.Decide.{decLt}
 use lib.ListN.{length, getD, drop, length-drop}
 use lib.Seq.{drop-cons}
-use Rattle.grammar.specs.Grammar.{Repeat, once, many, more, maybe, exactly, atLeast, between, Kind, ordinary, backslash, bar, opener, closer, bracket, brace, period, stray, sign, kind, special, repeatText}
-use Rattle.grammar.specs.Before.{Before, start, barred, opened, after, text, isOnce, ready, WfBefore}
+use lib.Dec.{eqb, eqb→eq, eqb-refl}
+use Rattle.grammar.specs.Grammar.{Repeat, once, many, more, maybe, exactly, atLeast, between, lazily, unmarked, Kind, ordinary, backslash, bar, opener, closer, bracket, brace, period, stray, sign, kind, special, repeatText}
+use Rattle.grammar.specs.Before.{Before, start, barred, opened, after, text, ready, softens, WfBefore}
 use Rattle.grammar.specs.Refusals.{Wrong, bare, unreadySign, unreadyCount, escapeLast, escapeOrdinary, noClass, noCount, tooDeep, leftOpen, Fault, wrong}
 use Rattle.grammar.specs.Code.Reader.{missing, readClass, readCount}
+use Rattle.grammar.specs.Code.Codes.{firstHolds}
+use Rattle.theory.proofs.Tests.{true-T}
 use Rattle.grammar.proofs.Texts.{KindOk, kind-ok, ordinary-kind}
 use Rattle.grammar.proofs.Sound.{opens-max, no-class, no-count}
 use Rattle.grammar.proofs.Unique.{afterSequence, afterAlternation, opens-sequence, text-sequence, text-alternation}
 use Rattle.grammar.proofs.Place.{text-length, sequence-formed, alternation-formed, opens-alternation}
 use Rattle.reader.specs.declared.Brackets.{Brackets}
-use Rattle.reader.specs.Steps.{isSpecial, isRepeat, NoRepeat, Beginning, Begun, Ready, Alternated, Sequenced, Atomic, Repeated}
+use Rattle.reader.specs.Steps.{isSpecial, isRepeat, NoRepeat, NoSign, Beginning, Begun, Ready, Alternated, Sequenced, Atomic, Repeated}
 
 -- The bytes from a place on.
 pub at-drop : (p : List ℕ) (i : ℕ) → i < length p → drop i p ≡ getD p i 0 ∷ drop (i + 1) p
@@ -27,12 +31,26 @@ at-drop p i h = rw (add-one, drop-cons p i 0) refl
 pub byte-drop : (p : List ℕ) (i x : ℕ) → i < length p → getD p i 0 ≡ x → drop i p ≡ x ∷ drop (i + 1) p
 byte-drop p i x h e = at-drop p i h ∙ rw e refl
 
-pub drop-all : (p : List ℕ) (i : ℕ) → i ≡ length p → drop i p ≡ []
-drop-all p i h = go (drop i p) (length-drop i p)
+drop-past : (p : List ℕ) (i : ℕ) → length p ≤ i → drop i p ≡ []
+drop-past p i h = go (drop i p) (length-drop i p)
   where
     go : (l : List ℕ) → length l ≡ length p - i → l ≡ []
     go [] e = refl
     go (x ∷ l) e = absurd (omega arith)
+
+pub drop-all : (p : List ℕ) (i : ℕ) → i ≡ length p → drop i p ≡ []
+drop-all p i h = drop-past p i (omega arith)
+
+pub never : {A : Type 0} → false ≡ true → A
+never e = let y : _≡_ {A = ℕ} 0 1 = cc in absurd (omega arith)
+
+-- A byte that stands at the place.
+pub held-here : (p : List ℕ) (i x : ℕ) → firstHolds (drop i p) x ≡ true → (i < length p) × (drop i p ≡ x ∷ drop (i + 1) p)
+held-here p i x h = go (decLt i (length p))
+  where
+    go : Dec (i < length p) → (i < length p) × (drop i p ≡ x ∷ drop (i + 1) p)
+    go (yes l) = let g : eqb x (getD p i 0) ≡ true = rw (at-drop p i l) at h in (l, byte-drop p i x l (sym (eqb→eq x (getD p i 0) (true-T (eqb x (getD p i 0)) g))))
+    go (no l) = never (sym (ap (λ s. firstHolds s x) (drop-past p i (omega arith))) ∙ h)
 
 module _ {p : List ℕ} {at : ℕ} (b : Beginning p at) where
   pub begin-place : at ≡ length (text (b .o) [])
@@ -58,7 +76,8 @@ module _ {p : List ℕ} {at d : ℕ} where
           split = text-sequence (r .q) (b .begin .o) (124 ∷ drop (e + 1) p) ∙ (let g = byte-drop p e 124 h x in rw (← g, r .text) (b .begin .split));
         };
         deep = opens-sequence (r .q) (b .begin .o) ∙ b .deep;
-        settled = λ z. let y : _≡_ {A = ℕ} 0 1 = cc in absurd (omega arith);
+        settled = never;
+        unsigned = never;
       }
 
   pub begun-open : Begun p at d → at < length p → getD p at 0 ≡ 40 → d ≢ 16 → Begun p (at + 1) (d + 1)
@@ -72,7 +91,8 @@ module _ {p : List ℕ} {at d : ℕ} where
           split = let g = byte-drop p at 40 h x in rw (← g) (b .begin .split);
         };
         deep = omega (arith, b .deep);
-        settled = λ z. let y : _≡_ {A = ℕ} 0 1 = cc in absurd (omega arith);
+        settled = never;
+        unsigned = never;
       }
 
   pub ready-atom : {e c n m : ℕ} {f g : List ℕ} {u w : Brackets} → Begun p at d → Atomic p at d e c f n g m u w → Ready p e
@@ -100,23 +120,25 @@ module _ {p : List ℕ} {at d : ℕ} where
         };
         deep = b .deep;
         settled = r .settled;
+        unsigned = r .unsigned;
       }
 
 pub begun-start : (p : List ℕ) → length p ≤ 255 → Begun p 0 0
-begun-start p h = record { begin = record { short = h; inside = omega arith; o = start; formed = tt; split = refl }; deep = refl; settled = λ z. let y : _≡_ {A = ℕ} 0 1 = cc in absurd (omega arith) }
+begun-start p h = record { begin = record { short = h; inside = omega arith; o = start; formed = tt; split = refl }; deep = refl; settled = never; unsigned = never }
 
 -- What a byte is.
 pub ordinary-of : (b : ℕ) → false ≡ isSpecial b → kind b ≡ ordinary
 ordinary-of b e = ordinary-kind (kind b) (sym e)
 
-sign-not : (b : ℕ) → b ≢ 42 → b ≢ 43 → b ≢ 63 → b ≢ 123 → (r : Repeat) → isOnce r ≡ false → ((s : List ℕ) → repeatText r s ≡ b ∷ s) → ⊥
-sign-not b x y z w once e h = let q : _≡_ {A = ℕ} 0 1 = cc in omega arith
+sign-not : (b : ℕ) → b ≢ 42 → b ≢ 43 → b ≢ 63 → b ≢ 123 → (r : Repeat) → unmarked r ≡ true → ((s : List ℕ) → repeatText r s ≡ b ∷ s) → ⊥
+sign-not b x y z w once e h = never e
 sign-not b x y z w many e h = let k = h [] in let q : _≡_ {A = ℕ} 42 b = cc in x (sym q)
 sign-not b x y z w more e h = let k = h [] in let q : _≡_ {A = ℕ} 43 b = cc in y (sym q)
 sign-not b x y z w maybe e h = let k = h [] in let q : _≡_ {A = ℕ} 63 b = cc in z (sym q)
 sign-not b x y z w (exactly m) e h = let k = h [] in let q : _≡_ {A = ℕ} 123 b = cc in w (sym q)
 sign-not b x y z w (atLeast m) e h = let k = h [] in let q : _≡_ {A = ℕ} 123 b = cc in w (sym q)
 sign-not b x y z w (between m n) e h = let k = h [] in let q : _≡_ {A = ℕ} 123 b = cc in w (sym q)
+sign-not b x y z w (lazily r) e h = never e
 
 pub no-repeat : (b : ℕ) → b ≢ 42 → b ≢ 43 → b ≢ 63 → b ≢ 123 → isRepeat (kind b) ≡ false
 no-repeat b x y z w = go (kind b) (kind-ok b)
@@ -174,6 +196,13 @@ module _ {p : List ℕ} {at d : ℕ} (b : Begun p at d) (i : at < length p) wher
           let w : _≡_ {A = ℕ} 0 1 = cc in absurd (omega arith)
       unready k false f = f
 
+      unsoft : 63 ∷ [] ≡ getD p at 0 ∷ [] → (c : Bool) → softens (b .begin .o) ≡ c → softens (b .begin .o) ≡ false
+      unsoft q true f =
+          let k : 63 ≡ getD p at 0 = cc in
+          let g : eqb 63 (getD p at 0) ≡ false = rw (at-drop p at i) at (b .unsigned f) in
+          never (sym (rw (← k) at g) ∙ refl)
+      unsoft q false f = f
+
       go : (k : Kind) → kind (getD p at 0) ≡ k → KindOk (getD p at 0) k → Fault p 2 at
       go ordinary e h = let q : special (kind (getD p at 0)) ≡ false = rw e refl in let w : _≡_ {A = ℕ} 0 1 = cc in absurd (omega arith)
       go backslash e h = absurd (x h)
@@ -184,7 +213,7 @@ module _ {p : List ℕ} {at d : ℕ} (b : Begun p at d) (i : at < length p) wher
       go brace e h = stop (rw h (unreadyCount (drop (at + 1) p) (unready (rw e refl) (ready (b .begin .o)) refl)))
       go period e h = absurd (z h)
       go stray e h = stop (bare (getD p at 0) (drop (at + 1) p) e)
-      go (sign r) e h = stop (unreadySign (getD p at 0) r (drop (at + 1) p) e (unready (rw e refl) (ready (b .begin .o)) refl))
+      go (sign r) e h = stop (unreadySign (getD p at 0) r (drop (at + 1) p) e (unready (rw e refl) (ready (b .begin .o)) refl) (λ q. unsoft (subst (λ x. repeatText x [] ≡ getD p at 0 ∷ []) q (h .2 [])) (softens (b .begin .o)) refl))
 
 -- A `{` that starts no valid count, right after an atom.
 pub fault-count : {p : List ℕ} {at : ℕ} → Ready p at → at < length p → getD p at 0 ≡ 123 → readCount (drop (at + 1) p) ≡ missing → Fault p 5 at

@@ -3,22 +3,22 @@
 use mathlib.Core.Path.{_≡_, refl, sym, ap, _∙_, subst}
 use mathlib.Core.Logic.{_≢_}
 use Prim.Native.Nat.{ℕ, suc, _+_, _-_, _≤_, _<_, max, min}
-use mathlib.Core.Bool.{true, false}
+use mathlib.Core.Bool.{Bool, true, false}
 use mathlib.Core.List.{List, [], _∷_, _++_, map, map-append, append-assoc, append-nil}
 use native.Mathlib.Omega.{arith}
 use native.Mathlib.Decide.{decLt}
 use lib.ListN.{length, getD, drop}
-use Rattle.theory.specs.Pattern.{Re}
-use Rattle.grammar.specs.Grammar.{plain, escaped, Repeat, once, many, more, maybe, exactly, atLeast, between, Digits, digitsValue, last, or, Sequence, nothing, part, Atom, byte, dot, class, group, repeatText, alternation, sequence, atom, WfAtom, WfRepeat}
+use Rattle.theory.specs.Pattern.{Manner, Re}
+use Rattle.grammar.specs.Grammar.{plain, escaped, Repeat, once, many, more, maybe, exactly, atLeast, between, lazily, unmarked, Digits, digitsValue, last, or, Sequence, nothing, part, Atom, byte, dot, class, group, repeatText, alternation, sequence, atom, WfAtom, WfRepeat}
 use Rattle.grammar.specs.Limits.{depthAtom, repeated, weight, weights, weightAtom, heaviest, heaviestWithin, heaviestAtom}
 use Rattle.grammar.specs.Brackets.{bracketsWithin, bracketsAtom, openings, openingsAtom, maxFields}
-use Rattle.grammar.specs.WriteOut.{chain, optional, bracketed, shape, parts, shapeAtom, repeatOf}
-use Rattle.grammar.specs.Before.{isOnce}
+use Rattle.grammar.specs.WriteOut.{chain, optional, bracketed, shape, parts, shapeAtom, repeatBy, repeatOf}
 use Rattle.grammar.specs.Refusals.{Fault}
 use Rattle.grammar.specs.Code.Reader.{found, readClass, readCount}
 use Rattle.grammar.specs.Code.Tokens.{Token, nil, both, tokens}
 use Rattle.grammar.specs.Code.Tokens
-use Rattle.grammar.specs.Code.Codes.{firstField, firstLeaf, tokenOf, exactlyCodes, atLeastCodes, betweenCodes}
+use Rattle.grammar.specs.Code.Codes.{firstHolds, manner, starOf, firstField, firstLeaf, tokenOf, exactlyCodes, atLeastCodes, betweenCodes}
+use Rattle.grammar.proofs.Texts.{not-once}
 use Rattle.grammar.proofs.Pieces.{Sound, ClassIs, class-sound, CountIs, count-sound}
 use Rattle.grammar.proofs.Codes.{plain-code, escaped-code, dot-code, class-code, field-codes, unmarked-codes, star-codes, exactly-codes, atLeast-codes, between-codes}
 use Rattle.grammar.proofs.Openings.{within-count, atom-count}
@@ -27,10 +27,10 @@ use Rattle.scanner.specs.Scanned.{Onward}
 use Rattle.reader.specs.declared.Part.{Part}
 use Rattle.reader.specs.declared.Part.the-variants.{Read, Refused}
 use Rattle.reader.specs.declared.Brackets.{Brackets}
-use Rattle.reader.specs.Steps.{isSpecial, oneMore, Passed, AddedIf, NoRepeat, Begun, Weighs, light, loadOf, tokensOf, Wrote, Rewrote, PartRead, found-part, found-fault, Alternated, Sequenced, Atomic, Repeated}
+use Rattle.reader.specs.Steps.{isSpecial, oneMore, Passed, AddedIf, NoRepeat, Begun, Weighs, light, loadOf, signEnd, tokensOf, Wrote, Rewrote, PartRead, found-part, found-fault, Alternated, Sequenced, Atomic, Repeated}
 use Rattle.reader.proofs.Weights.{weighs-plus, weighs-again, weighs-times, one-load, or-light, or-heavy, repeated-pos, atom-pos, atom-heaviest, load-none, load-some}
 use Rattle.reader.proofs.Passed.{passed-none, passed-then, passed-count, passed-group}
-use Rattle.reader.proofs.Begins.{at-drop, byte-drop, drop-all, next-here, depth-max, ordinary-of, no-repeat}
+use Rattle.reader.proofs.Begins.{never, at-drop, byte-drop, drop-all, held-here, next-here, depth-max, ordinary-of, no-repeat}
 
 -- Writing.
 module _ {p : List ℕ} where
@@ -72,59 +72,73 @@ module _ {p : List ℕ} {F : ℕ → ℕ → Type 0} where
   known x h = finding (rw x at h)
 
 -- Repeats.
-rewrote : {p : List ℕ} {n from m : ℕ} {a b : List ℕ} (x : Repeat) (f : List ℕ → List ℕ) → Rewritten a n from f b m → ((k : List ℕ) (y : Re) → map (tokenOf p) k ≡ tokens y → map (tokenOf p) (f k) ≡ tokens (repeatOf x y))
-    → (y : Re) → Rewrote p a n from b m y (repeatOf x y)
-rewrote x f r g y = record { codes = f; are = λ k. g k y; holds = r .holds }
+rewrote : {p : List ℕ} {n from m : ℕ} {a b : List ℕ} (how : Manner) (x : Repeat) (f : List ℕ → List ℕ) → Rewritten a n from f b m
+    → ((k : List ℕ) (y : Re) → map (tokenOf p) k ≡ tokens y → map (tokenOf p) (f k) ≡ tokens (repeatBy how x y)) → (y : Re) → Rewrote p a n from b m y (repeatBy how x y)
+rewrote how x f r g y = record { codes = f; are = λ k. g k y; holds = r .holds }
 
+-- A repeat x makes a part that weighs v weigh c.
+abbrev Loads : ℕ → ℕ → Repeat → Type 0
+Loads v c x = (w h : ℕ) → w ≤ h → Weighs v w h → Weighs c (repeated x w) (max h (repeated x w))
+
+-- A repeat x that ends at e, with the sign after it or without.
 module _ {p : List ℕ} {at v n from m : ℕ} {a b : List ℕ} where
-  -- A repeat x that ends at e.
-  found-repeat : (x : Repeat) (e c : ℕ) → WfRepeat x → isOnce x ≡ false → repeatText x (drop e p) ≡ drop at p → at ≤ e → e ≤ length p → ((y : Re) → Rewrote p a n from b m y (repeatOf x y))
-      → ((w h : ℕ) → w ≤ h → Weighs v w h → Weighs c (repeated x w) (max h (repeated x w))) → Repeated p at v e c a n from b m
-  found-repeat x e c w o t f i r l =
-      record { x = x; formed = w; text = t; forward = f; inside = i; settled = λ y. let z : _≡_ {A = ℕ} 0 1 = cc in absurd (omega arith); wrote = r; load = l }
+  found-repeat : (x : Repeat) (e c : ℕ) (lazy : Bool) → lazy ≡ firstHolds (drop e p) 63 → WfRepeat x → unmarked x ≡ true → repeatText x (drop e p) ≡ drop at p → at ≤ e → e ≤ length p
+      → ((y : Re) → Rewrote p a n from b m y (repeatBy (manner lazy) x y)) → Loads v c x → Repeated p at v (signEnd e lazy) c a n from b m
+  found-repeat x e c true q w o t f i r l =
+      let (j, d) = held-here p e 63 (sym q) in
+      record { x = lazily x; formed = (w, o); text = ap (repeatText x) (sym d) ∙ t; forward = omega arith; inside = omega arith; settled = never; unsigned = never; wrote = r; load = l }
+  found-repeat x e c false q w o t f i r l =
+      record { x = x; formed = w; text = t; forward = f; inside = i; settled = λ y. never (sym (not-once x o) ∙ y); unsigned = λ y. sym q; wrote = r; load = l }
 
   -- A sign.
-  sign-here : (x : Repeat) (k c : ℕ) → at < length p → getD p at 0 ≡ k → WfRepeat x → isOnce x ≡ false → ((s : List ℕ) → repeatText x s ≡ k ∷ s) → ((y : Re) → Rewrote p a n from b m y (repeatOf x y))
-      → ((w h : ℕ) → w ≤ h → Weighs v w h → Weighs c (repeated x w) (max h (repeated x w))) → Repeated p at v (at + 1) c a n from b m
-  sign-here x k c h e w o t r l = found-repeat x (at + 1) c w o (t (drop (at + 1) p) ∙ sym (byte-drop p at k h e)) (omega arith) (omega arith) r l
+  module _ (h : at < length p) (lazy : Bool) (q : lazy ≡ firstHolds (drop (at + 1) p) 63) where
+    sign-here : (x : Repeat) (k c : ℕ) → getD p at 0 ≡ k → WfRepeat x → unmarked x ≡ true → ((s : List ℕ) → repeatText x s ≡ k ∷ s)
+        → ((y : Re) → Rewrote p a n from b m y (repeatBy (manner lazy) x y)) → Loads v c x → Repeated p at v (signEnd (at + 1) lazy) c a n from b m
+    sign-here x k c e w o t r l = found-repeat x (at + 1) c lazy q w o (t (drop (at + 1) p) ∙ sym (byte-drop p at k h e)) (omega arith) (omega arith) r l
 
-  pub many-here : at < length p → getD p at 0 ≡ 42 → Rewritten a n from (λ k. k ++ (3 ∷ [])) b m → Repeated p at v (at + 1) v a n from b m
-  many-here h e r = sign-here many 42 v h e tt refl (λ s. refl) (rewrote many (λ k. k ++ (3 ∷ [])) r (star-codes p)) (λ w h k x. weighs-again k x)
+    pub many-here : getD p at 0 ≡ 42 → Rewritten a n from (λ k. k ++ (starOf (manner lazy) ∷ [])) b m → Repeated p at v (signEnd (at + 1) lazy) v a n from b m
+    many-here e r =
+        sign-here many 42 v e tt refl (λ s. refl) (rewrote (manner lazy) many (λ k. k ++ (starOf (manner lazy) ∷ [])) r (λ k y x. star-codes p k y x (manner lazy))) (λ w h k x. weighs-again k x)
 
-  pub more-here : (c : ℕ) → c ≡ loadOf 2 v → at < length p → getD p at 0 ≡ 43 → Rewritten a n from (atLeastCodes 1) b m → Repeated p at v (at + 1) c a n from b m
-  unfolding chain
-  more-here c d h e r = sign-here more 43 c h e tt refl (λ s. refl) (rewrote more (atLeastCodes 1) r (λ k y x. atLeast-codes p k y x 1)) (λ w h k x. weighs-times 2 c d k x)
+    pub more-here : (c : ℕ) → c ≡ loadOf 2 v → getD p at 0 ≡ 43 → Rewritten a n from (atLeastCodes (manner lazy) 1) b m → Repeated p at v (signEnd (at + 1) lazy) c a n from b m
+    unfolding chain
+    more-here c d e r =
+        sign-here more 43 c e tt refl (λ s. refl) (rewrote (manner lazy) more (atLeastCodes (manner lazy) 1) r (λ k y x. atLeast-codes p k y x (manner lazy) 1)) (λ w h k x. weighs-times 2 c d k x)
 
-  pub maybe-here : at < length p → getD p at 0 ≡ 63 → Rewritten a n from (betweenCodes 0 1) b m → Repeated p at v (at + 1) v a n from b m
-  unfolding chain optional
-  maybe-here h e r = sign-here maybe 63 v h e tt refl (λ s. refl) (rewrote maybe (betweenCodes 0 1) r (λ k y x. between-codes p k y x 0 1)) (λ w h k x. weighs-again k x)
+    pub maybe-here : getD p at 0 ≡ 63 → Rewritten a n from (betweenCodes (manner lazy) 0 1) b m → Repeated p at v (signEnd (at + 1) lazy) v a n from b m
+    unfolding chain optional
+    maybe-here e r =
+        sign-here maybe 63 v e tt refl (λ s. refl) (rewrote (manner lazy) maybe (betweenCodes (manner lazy) 0 1) r (λ k y x. between-codes p k y x (manner lazy) 0 1)) (λ w h k x. weighs-again k x)
 
   -- A count that was found.
-  module _ (h : at < length p) (brace : getD p at 0 ≡ 123) {e : ℕ} (next : Onward p (at + 1) e) where
-    counted : (x : Repeat) (c : ℕ) → readCount (drop (at + 1) p) ≡ found x (drop e p) → ((y : Re) → Rewrote p a n from b m y (repeatOf x y))
-        → ((w h : ℕ) → w ≤ h → Weighs v w h → Weighs c (repeated x w) (max h (repeated x w))) → Repeated p at v e c a n from b m
+  module _ (h : at < length p) (brace : getD p at 0 ≡ 123) {e : ℕ} (next : Onward p (at + 1) e) (lazy : Bool) (q : lazy ≡ firstHolds (drop e p) 63) where
+    counted : (x : Repeat) (c : ℕ) → readCount (drop (at + 1) p) ≡ found x (drop e p) → ((y : Re) → Rewrote p a n from b m y (repeatBy (manner lazy) x y)) → Loads v c x
+        → Repeated p at v (signEnd e lazy) c a n from b m
     counted x c f r l =
         let i : CountIs (123 ∷ drop (at + 1) p) x (drop e p) = subst (Sound (CountIs (123 ∷ drop (at + 1) p))) f (count-sound (drop (at + 1) p)) in
-        found-repeat x e c (i .0) (i .1) (i .2 ∙ sym (byte-drop p at 123 h brace)) (omega (arith, next .forward)) (next .inside) r l
+        found-repeat x e c lazy q (i .0) (i .1) (i .2 ∙ sym (byte-drop p at 123 h brace)) (omega (arith, next .forward)) (next .inside) r l
 
-    pub exactly-here : (d : Digits) (t c : ℕ) → readCount (drop (at + 1) p) ≡ found (exactly d) (drop e p) → digitsValue d ≡ t → c ≡ loadOf t v → Rewritten a n from (exactlyCodes t) b m → Repeated p at v e c a n from b m
+    pub exactly-here : (d : Digits) (t c : ℕ) → readCount (drop (at + 1) p) ≡ found (exactly d) (drop e p) → digitsValue d ≡ t → c ≡ loadOf t v → Rewritten a n from (exactlyCodes t) b m
+        → Repeated p at v (signEnd e lazy) c a n from b m
     exactly-here d t c f g k r =
-        counted (exactly d) c f (rewrote (exactly d) (exactlyCodes t) r (λ k y x. rw g (exactly-codes p k y x t))) (λ w h i x. rw g (weighs-times t c k i x))
+        counted (exactly d) c f (rewrote (manner lazy) (exactly d) (exactlyCodes t) r (λ k y x. rw g (exactly-codes p k y x t))) (λ w h i x. rw g (weighs-times t c k i x))
 
-    pub atLeast-here : (d : Digits) (t c : ℕ) → readCount (drop (at + 1) p) ≡ found (atLeast d) (drop e p) → digitsValue d ≡ t → c ≡ loadOf (t + 1) v → Rewritten a n from (atLeastCodes t) b m → Repeated p at v e c a n from b m
+    pub atLeast-here : (d : Digits) (t c : ℕ) → readCount (drop (at + 1) p) ≡ found (atLeast d) (drop e p) → digitsValue d ≡ t → c ≡ loadOf (t + 1) v → Rewritten a n from (atLeastCodes (manner lazy) t) b m
+        → Repeated p at v (signEnd e lazy) c a n from b m
     atLeast-here d t c f g k r =
-        counted (atLeast d) c f (rewrote (atLeast d) (atLeastCodes t) r (λ k y x. rw g (atLeast-codes p k y x t)))
+        counted (atLeast d) c f (rewrote (manner lazy) (atLeast d) (atLeastCodes (manner lazy) t) r (λ k y x. rw g (atLeast-codes p k y x (manner lazy) t)))
         (λ w h i x. rw g (let s : t + 1 ≡ suc t = omega arith in weighs-times (suc t) c (k ∙ ap (λ u. loadOf u v) s) i x))
 
-    pub between-here : (d d′ : Digits) (t u c : ℕ) → readCount (drop (at + 1) p) ≡ found (between d d′) (drop e p) → digitsValue d ≡ t → digitsValue d′ ≡ u → c ≡ loadOf u v → Rewritten a n from (betweenCodes t (u - t)) b m
-        → Repeated p at v e c a n from b m
+    pub between-here : (d d′ : Digits) (t u c : ℕ) → readCount (drop (at + 1) p) ≡ found (between d d′) (drop e p) → digitsValue d ≡ t → digitsValue d′ ≡ u → c ≡ loadOf u v
+        → Rewritten a n from (betweenCodes (manner lazy) t (u - t)) b m → Repeated p at v (signEnd e lazy) c a n from b m
     between-here d d′ t u c f g g′ k r =
-        counted (between d d′) c f (rewrote (between d d′) (betweenCodes t (u - t)) r (λ k y x. rw (g, g′) (between-codes p k y x t (u - t)))) (λ w h i x. rw g′ (weighs-times u c k i x))
+        counted (between d d′) c f (rewrote (manner lazy) (between d d′) (betweenCodes (manner lazy) t (u - t)) r (λ k y x. rw (g, g′) (between-codes p k y x (manner lazy) t (u - t))))
+        (λ w h i x. rw g′ (weighs-times u c k i x))
 
 -- No repeat.
 module _ {p : List ℕ} {at v n from : ℕ} {a : List ℕ} where
   none-here : at ≤ length p → NoRepeat (drop at p) → Repeated p at v at v a n from a n
-  none-here h k = record { x = once; formed = tt; text = refl; forward = omega arith; inside = h; settled = λ y. k; wrote = λ y. record { codes = λ k. k; are = λ k e. e; holds = λ l k h u. h }; load = λ w h k x. weighs-again k x }
+  none-here h k = record { x = once; formed = tt; text = refl; forward = omega arith; inside = h; settled = λ y. k; unsigned = never; wrote = λ y. record { codes = λ k. k; are = λ k e. e; holds = λ l k h u. h }; load = λ w h k x. weighs-again k x }
 
   pub end-here : at ≡ length p → Repeated p at v at v a n from a n
   end-here e = none-here (omega arith) (rw (drop-all p at e) tt)

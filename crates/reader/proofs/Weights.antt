@@ -7,7 +7,7 @@ use mathlib.Core.Logic.{_≢_}
 use native.Mathlib.Omega.{arith}
 use native.Mathlib.Nat.{one-le-mul, mul-le-mul}
 use lib.Dec.{T, eqb, eqb→eq, leb, leb→le, nleb→lt}
-use Rattle.grammar.specs.Grammar.{Repeat, once, many, more, maybe, exactly, atLeast, between, digitsValue, last, or, Atom, byte, dot, class, group}
+use Rattle.grammar.specs.Grammar.{Repeat, once, many, more, maybe, exactly, atLeast, between, lazily, digitsValue, last, or, Atom, byte, dot, class, group}
 use Rattle.grammar.specs.Limits.{times, repeated, weight, weightAtom, heaviest, heaviestAtom}
 use Rattle.grammar.proofs.Size.{weight-heaviest}
 use Rattle.reader.specs.Steps.{Weighs, light, heavy, loadOf}
@@ -70,6 +70,7 @@ repeated-pos maybe w h = h
 repeated-pos (exactly m) w h = times-pos (digitsValue m) w h
 repeated-pos (atLeast m) w h = one-le-mul (omega arith) h
 repeated-pos (between m n) w h = times-pos (digitsValue n) w h
+repeated-pos (lazily r) w h = repeated-pos r w h
 
 pub atom-pos : (a : Atom) → 1 ≤ weightAtom a
 unfolding weight

@@ -8,14 +8,14 @@ use mathlib.Core.List.{List, [], _∷_, _++_, map}
 use lib.ListN.{length, getD, drop}
 use lib.Dec.{eqb, ltb}
 use Rattle.theory.specs.Pattern.{Re}
-use Rattle.grammar.specs.Grammar.{Repeat, Alternation, Sequence, Atom, Kind, ordinary, backslash, bar, opener, closer, bracket, brace, period, stray, sign, kind, special, repeatText, alternation, sequence, atom, WfAlternation, WfSequence, WfAtom, WfRepeat}
+use Rattle.grammar.specs.Grammar.{Repeat, unmarked, Alternation, Sequence, Atom, Kind, ordinary, backslash, bar, opener, closer, bracket, brace, period, stray, sign, kind, special, repeatText, alternation, sequence, atom, WfAlternation, WfSequence, WfAtom, WfRepeat}
 use Rattle.grammar.specs.Limits.{maxBytes, maxDepth, maxWeight, depth, depthSequence, depthAtom, times, repeated, weight, weights, weightAtom, heaviest, heaviestWithin, heaviestAtom}
 use Rattle.grammar.specs.Brackets.{openings, openingsWithin, openingsAtom, maxFields}
 use Rattle.grammar.specs.WriteOut.{chain, shape, parts, shapeAtom, repeatOf}
-use Rattle.grammar.specs.Before.{Before, text, opens, isOnce, ready, WfBefore}
+use Rattle.grammar.specs.Before.{Before, text, opens, isOnce, ready, softens, WfBefore}
 use Rattle.grammar.specs.Refusals.{Fault}
 use Rattle.grammar.specs.Code.Tokens.{maxParts, Token, tokens}
-use Rattle.grammar.specs.Code.Codes.{tokenOf}
+use Rattle.grammar.specs.Code.Codes.{firstHolds, tokenOf}
 use Rattle.tokens.specs.Held.{HoldsCodes, Added}
 use Rattle.reader.specs.declared.Answer.{Answer}
 use Rattle.reader.specs.declared.Answer.the-variants.{Accepted}
@@ -44,6 +44,10 @@ abbrev pub NoRepeat : List ℕ → Type 0
 NoRepeat [] = Unit {0}
 NoRepeat (b ∷ s) = isRepeat (kind b) ≡ false
 
+-- No `?`.
+abbrev pub NoSign : List ℕ → Type 0
+NoSign s = firstHolds s 63 ≡ false
+
 -- The pattern up to the place is a beginning.
 pub record Beginning (p : List ℕ) (at : ℕ) : Type 0 where
   pub short : length p ≤ maxBytes
@@ -52,11 +56,12 @@ pub record Beginning (p : List ℕ) (at : ℕ) : Type 0 where
   pub formed : WfBefore o
   pub split : text o (drop at p) ≡ p
 
--- .. with d brackets open, and no repeat can follow there.
+-- .. with d brackets open, and neither a repeat nor the sign of a lazy one can follow there.
 pub record Begun (p : List ℕ) (at d : ℕ) : Type 0 where
   pub begin : Beginning p at
   pub deep : opens (begin .o) ≡ d
   pub settled : ready (begin .o) ≡ true → NoRepeat (drop at p)
+  pub unsigned : softens (begin .o) ≡ true → NoSign (drop at p)
 
 -- .. right after an atom.
 pub record Ready (p : List ℕ) (at : ℕ) : Type 0 where
@@ -81,6 +86,10 @@ pub data Weighs (c w h : ℕ) : Type 0 where
 -- The weight of n copies of a part that weighs v.
 abbrev pub loadOf : ℕ → ℕ → ℕ
 loadOf n v = cond (eqb v aboveLimit) aboveLimit (min aboveLimit (times n v))
+
+-- The place after a repeat that ends at e, and after the sign that makes it lazy.
+abbrev pub signEnd : ℕ → Bool → ℕ
+signEnd e lazy = cond lazy (e + 1) e
 
 -- The brackets g and one more, at the place q.
 abbrev pub oneMore : Brackets → ℕ → Brackets
@@ -182,6 +191,7 @@ pub record Repeated (p : List ℕ) (at v e c : ℕ) (a : List ℕ) (n from : ℕ
   pub forward : at ≤ e
   pub inside : e ≤ length p
   pub settled : isOnce x ≡ true → NoRepeat (drop e p)
+  pub unsigned : unmarked x ≡ true → NoSign (drop e p)
   pub wrote : (y : Re) → Rewrote p a n from b m y (repeatOf x y)
   pub load : (w h : ℕ) → w ≤ h → Weighs v w h → Weighs c (repeated x w) (max h (repeated x w))
 

@@ -8,7 +8,7 @@ ghost use lib.ListN.{length, getD};
 ghost use Rattle.grammar.specs.Limits.{maxBytes};
 ghost use Rattle.grammar.specs.Brackets.{maxFields};
 ghost use Rattle.grammar.specs.Code.Codes.{emptyKind, sequenceKind, firstField, firstLeaf};
-ghost use Rattle.reader.specs.Steps.{isSpecial, aboveLimit, loadOf, oneMore, Begun, Ready, AtomAt, AlternationRead, SequenceRead, AtomRead, LeafRead, RepeatRead, AddedIf, answerBy};
+ghost use Rattle.reader.specs.Steps.{isSpecial, aboveLimit, loadOf, signEnd, oneMore, Begun, Ready, AtomAt, AlternationRead, SequenceRead, AtomRead, LeafRead, RepeatRead, AddedIf, answerBy};
 ghost use Rattle.reader.specs.Reading.{noBrackets, ReadRight};
 ghost use Rattle.tokens.specs.Held.{Added};
 use arrays::Codes;
@@ -56,6 +56,9 @@ pub struct Walk {
 
 // The byte that begins a count.
 const BRACE: u8 = b'{';
+
+// The byte that makes a repeat lazy.
+const SIGN: u8 = b'?';
 
 // Stands for any weight above the limit.
 const ABOVE_LIMIT: usize = Pattern::MAX_WEIGHT + 1;
@@ -168,6 +171,14 @@ fn push_if_more(a: &mut Codes, len: usize, w: usize) -> usize
     }
 }
 
+// The place after a repeat that ends at `at`, and after the sign that makes it lazy.
+fn past(at: usize, lazy: bool) -> usize
+    requires { ⌜ at ≤ maxBytes ⌝ }
+    ensures { λ r. ⌜ r ≡ signEnd at lazy ⌝ }
+{
+    if lazy { at + 1 } else { at }
+}
+
 // The count after an atom that weighs `weight` and whose codes begin at `from`.
 fn counted(s: &[u8], at: usize, weight: usize, a: &mut Codes, len: usize, from: usize) -> Step
     requires { ⌜ Ready (now s) at × (at < length (now s)) × (getD (now s) at 0 ≡ 123) × (weight ≤ aboveLimit) ⌝ }
@@ -176,16 +187,20 @@ fn counted(s: &[u8], at: usize, weight: usize, a: &mut Codes, len: usize, from: 
     let count = scanner::read_count(s, at + 1);
     match count {
         Count::Exactly { times, next } => {
+            // nothing is optional here, so the sign has no effect
+            let lazy = scanner::has_byte(s, next, SIGN);
             let n = tokens::exactly(a, len, from, times);
-            found(next, load(times, weight), n)
+            found(past(next, lazy), load(times, weight), n)
         }
         Count::AtLeast { times, next } => {
-            let n = tokens::at_least(a, len, from, times);
-            found(next, load(times + 1, weight), n)
+            let lazy = scanner::has_byte(s, next, SIGN);
+            let n = tokens::at_least(a, len, from, times, lazy);
+            found(past(next, lazy), load(times + 1, weight), n)
         }
         Count::Between { least, most, next } => {
-            let n = tokens::between(a, len, from, least, most);
-            found(next, load(most, weight), n)
+            let lazy = scanner::has_byte(s, next, SIGN);
+            let n = tokens::between(a, len, from, least, most, lazy);
+            found(past(next, lazy), load(most, weight), n)
         }
         Count::NoCount => refused(5, at, len),
     }
@@ -200,20 +215,22 @@ fn repeat(s: &[u8], at: usize, weight: usize, a: &mut Codes, len: usize, from: u
         return found(at, weight, len);
     }
     let b = s[at];
-    if b == b'*' {
-        let n = tokens::star(a, len, from);
-        return found(at + 1, weight, n);
-    }
-    if b == b'+' {
-        let n = tokens::at_least(a, len, from, 1);
-        return found(at + 1, load(2, weight), n);
-    }
-    if b == b'?' {
-        let n = tokens::between(a, len, from, 0, 1);
-        return found(at + 1, weight, n);
-    }
     if b == BRACE {
         return counted(s, at, weight, a, len, from);
+    }
+    let next = at + 1;
+    let lazy = scanner::has_byte(s, next, SIGN);
+    if b == b'*' {
+        let n = tokens::star(a, len, from, lazy);
+        return found(past(next, lazy), weight, n);
+    }
+    if b == b'+' {
+        let n = tokens::at_least(a, len, from, 1, lazy);
+        return found(past(next, lazy), load(2, weight), n);
+    }
+    if b == b'?' {
+        let n = tokens::between(a, len, from, 0, 1, lazy);
+        return found(past(next, lazy), weight, n);
     }
     found(at, weight, len)
 }

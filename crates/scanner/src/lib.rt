@@ -108,8 +108,8 @@ fn is_marked(b: u8) -> bool
 }
 
 // Whether the byte at a place is b.
-fn has_byte(s: &[u8], at: usize, b: u8) -> bool
-    ensures { λ r. ⌜ r ≡ firstHolds (drop at (now (s .entry))) b ⌝ }
+pub fn has_byte(s: &[u8], at: usize, b: u8) -> bool
+    ensures here { λ r. ⌜ r ≡ firstHolds (drop at (now (s .entry))) b ⌝ }
 {
     if s.len() <= at {
         return false;

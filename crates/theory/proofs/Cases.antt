@@ -5,7 +5,7 @@ use Prim.Native.Nat.{ℕ}
 use mathlib.Core.Bool.{true}
 use mathlib.Core.List.{[], _∷_}
 use lib.Dec.{eqb}
-use Rattle.theory.specs.Pattern.{Re, empty, leaf, seq, alt, star, count}
+use Rattle.theory.specs.Pattern.{eager, lazy, Re, empty, leaf, seq, alt, star, opt, count}
 use Rattle.theory.specs.Outcomes.{emptyTurn, thenLeave, starOutcomes, outcomes}
 use Rattle.theory.specs.Spans.{nowhere, span, greedy, posix}
 use Rattle.theory.specs.Standing.{standing, isWitness}
@@ -28,23 +28,23 @@ unfolding posix outcomes
 greatest-end = refl
 
 -- The leftmost start counts, not the longest span: `b*` on ab is 0 0.
-pub leftmost-start : posix (star (byte 0 98)) (97 ∷ 98 ∷ []) ≡ span 0 0
+pub leftmost-start : posix (star eager (byte 0 98)) (97 ∷ 98 ∷ []) ≡ span 0 0
 unfolding posix outcomes starOutcomes emptyTurn thenLeave
 leftmost-start = refl
 
 -- A turn that took a byte goes on: `a*` on aa is 0 2.
-pub turns-go-on : greedy (star (byte 0 97)) (97 ∷ 97 ∷ []) ≡ span 0 2
+pub turns-go-on : greedy (star eager (byte 0 97)) (97 ∷ 97 ∷ []) ≡ span 0 2
 unfolding greedy outcomes starOutcomes emptyTurn thenLeave
 turns-go-on = refl
 
 -- `a*` ends without a turn: on b it is 0 0.
-pub no-turn : greedy (star (byte 0 97)) (98 ∷ []) ≡ span 0 0
+pub no-turn : greedy (star eager (byte 0 97)) (98 ∷ []) ≡ span 0 0
 unfolding greedy outcomes starOutcomes emptyTurn thenLeave
 no-turn = refl
 
 -- An empty turn ends the loop: `(|a)*` on aa is 0 0 for greedy, 0 2 for POSIX, and unlike with witness 61.
 abbrev empty-or-a : Re
-empty-or-a = star (alt empty (byte 0 97))
+empty-or-a = star eager (alt empty (byte 0 97))
 
 pub empty-turn : greedy empty-or-a (97 ∷ 97 ∷ []) ≡ span 0 0
 unfolding greedy outcomes starOutcomes emptyTurn thenLeave
@@ -63,8 +63,30 @@ pub empty-turn-place : standing empty-or-a [] .order ≡ []
 unfolding standing outcomes count starOutcomes emptyTurn thenLeave
 empty-turn-place = refl
 
+-- A lazy repeat prefers to leave: `a*?` on aa is 0 0 for greedy, and 0 2 for POSIX.
+abbrev lazy-a : Re
+lazy-a = star lazy (byte 0 97)
+
+pub lazy-leaves : greedy lazy-a (97 ∷ 97 ∷ []) ≡ span 0 0
+unfolding greedy outcomes starOutcomes emptyTurn thenLeave
+lazy-leaves = refl
+
+pub lazy-posix : posix lazy-a (97 ∷ 97 ∷ []) ≡ span 0 2
+unfolding posix outcomes starOutcomes emptyTurn thenLeave
+lazy-posix = refl
+
+-- It takes as few turns as the rest allows: `a*?b` on aab is 0 3.
+pub lazy-turns : greedy (seq lazy-a (byte 1 98)) (97 ∷ 97 ∷ 98 ∷ []) ≡ span 0 3
+unfolding greedy outcomes starOutcomes emptyTurn thenLeave
+lazy-turns = refl
+
+-- `a??` on a is 0 0.
+pub lazy-option : greedy (opt lazy (byte 0 97)) (97 ∷ []) ≡ span 0 0
+unfolding greedy outcomes
+lazy-option = refl
+
 -- The line's end is a start, too: `a*` on the empty line is 0 0, and `a` has none.
-pub last-start : greedy (star (byte 0 97)) [] ≡ span 0 0
+pub last-start : greedy (star eager (byte 0 97)) [] ≡ span 0 0
 unfolding greedy outcomes starOutcomes emptyTurn thenLeave
 last-start = refl
 
@@ -73,7 +95,7 @@ unfolding posix outcomes
 no-start = refl
 
 -- (a) is a list in order of first appearance, and no set: of `(ab|a)*` after a it is 1, 0, 2.
-pub order-kept : standing (star (alt (seq (byte 0 97) (byte 1 98)) (byte 2 97))) (97 ∷ []) .order ≡ 1 ∷ 0 ∷ 2 ∷ []
+pub order-kept : standing (star eager (alt (seq (byte 0 97) (byte 1 98)) (byte 2 97))) (97 ∷ []) .order ≡ 1 ∷ 0 ∷ 2 ∷ []
 unfolding standing outcomes starOutcomes emptyTurn thenLeave
 order-kept = refl
 

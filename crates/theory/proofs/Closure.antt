@@ -6,12 +6,12 @@ use mathlib.Core.Bool.{Bool, true, false, cond}
 use mathlib.Core.List.{List, [], _∷_, _++_, append-nil, append-assoc}
 use native.Mathlib.Omega.{arith}
 use lib.Dec.{T, eqb, eqb→eq, eqb·suc-suc, eqb·zero-suc, eqb·suc-zero}
-use Rattle.theory.specs.Pattern.{Re, empty, leaf, seq, alt, star, field, has, count}
+use Rattle.theory.specs.Pattern.{Manner, eager, lazy, Re, empty, leaf, seq, alt, star, field, has, count}
 use Rattle.theory.specs.Outcomes.{endsAt, wants, andThen, when, thenLeave}
 use Rattle.theory.specs.Code.Follow.{Next, start, follow, after, hasEnd}
 use Rattle.theory.specs.Standing.{fronts, wanted, member, gather, once, from, filter, setOf, Standing}
 use Rattle.theory.specs.Code.Next.{afters, next}
-use Rattle.theory.specs.Code.Closure.{flat, item, items, at0, splice, closure, closureAfter, takes, moves, front}
+use Rattle.theory.specs.Code.Closure.{flat, item, items, at0, splice, leaving, closure, closureAfter, takes, moves, front}
 use Rattle.theory.proofs.Turns.{andThen-emptyTurn}
 use Rattle.theory.proofs.Tests.{true-T, or-left, or-right, or-cases, either}
 use Rattle.theory.proofs.Members.{Within, member-append, gather-append, gather-absorb, gather-member, filter-same}
@@ -92,7 +92,11 @@ closure-right empty = refl
 closure-right (leaf p s) = refl
 closure-right (seq x y) = rw (closure-right x, closure-right y, items-andThen (start x) (start y)) (splice-once [] (items (start x)) (items (start y)))
 closure-right (alt x y) = rw (closure-right x, closure-right y, items-append) (append-once [] (items (start x)) (items (start y)))
-closure-right (star x) = rw (closure-right x, andThen-emptyTurn, items-append) (append-once [] (items (start x)) (0 ∷ []))
+closure-right (star how x) = rw (closure-right x, andThen-emptyTurn) (go how)
+  where
+    go : (how : Manner) → once (leaving how (once (items (start x)))) ≡ once (items (thenLeave how (start x) tt))
+    go eager = rw (items-append (start x)) (append-once [] (items (start x)) (0 ∷ []))
+    go lazy = gather-once (0 ∷ []) (items (start x))
 closure-right (field f x) = closure-right x
 
 pub closureAfter-right : (r : Re) (p : ℕ) → closureAfter r p ≡ once (items (follow r p))
@@ -116,7 +120,7 @@ closureAfter-right (seq x y) p =
     )
     (sym (gather-append [] (splice (items (start y)) (items (follow x p))) (items (follow y p))))
 closureAfter-right (alt x y) p = rw (closureAfter-right x p, closureAfter-right y p, items-append) (append-once [] (items (follow x p)) (items (follow y p)))
-closureAfter-right (star x) p = rw (closureAfter-right x p, closure-right (star x), items-andThen (follow x p) (start (star x))) (splice-once [] (items (follow x p)) (items (start (star x))))
+closureAfter-right (star how x) p = rw (closureAfter-right x p, closure-right (star how x), items-andThen (follow x p) (start (star how x))) (splice-once [] (items (follow x p)) (items (start (star how x))))
 closureAfter-right (field f x) p = closureAfter-right x p
 
 moves-right : (r : Re) (b : ℕ) (l : List ℕ) → moves r b l ≡ once (items (afters r b l))

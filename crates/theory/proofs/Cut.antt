@@ -12,7 +12,7 @@ use native.Mathlib.Decide.{decLe, ℕ-discrete}
 use lib.ListN.{length, take, drop, length-append, take-append-drop}
 use lib.Seq.{drop-append-add, length-take-le}
 use lib.Dec.{T, eqb, eqb→eq, eqb-refl, ltb, ltb→lt, lt→ltb, leb, leb→le, le→leb, T-not, not-T}
-use Rattle.theory.specs.Pattern.{Re, empty, leaf, seq, alt, star, field, Numbered}
+use Rattle.theory.specs.Pattern.{Manner, Re, empty, leaf, seq, alt, star, field, Numbered}
 use Rattle.theory.specs.Outcomes.{Outcome, endsAt, wants, replace, want, andThen, when, afterTurn, thenLeave, leafOutcomes, outcomes}
 use Rattle.theory.specs.Code.Follow.{Next, after}
 use Rattle.theory.specs.Standing.{firstIs, someIs, standing, isWitness}
@@ -45,15 +45,15 @@ shift-test : (c i k : ℕ) → ltb (c + i) (c + k) ≡ ltb i k
 shift-test c i k = same-test (ltb (c + i) (c + k)) (ltb i k) (λ t. lt→ltb i k (omega (arith, ltb→lt (c + i) (c + k) t))) (λ t. lt→ltb (c + i) (c + k) (omega (arith, ltb→lt i k t)))
 
 module _ (u w : List ℕ) where
-  module _ (x : Re) (below : (i : ℕ) → outcomes x (u ++ w) (length u + i) ≡ shift (length u) (outcomes x w i)) where
-    shift-star : (d i : ℕ) → length w - i < d → outcomes (star x) (u ++ w) (length u + i) ≡ shift (length u) (outcomes (star x) w i)
+  module _ (how : Manner) (x : Re) (below : (i : ℕ) → outcomes x (u ++ w) (length u + i) ≡ shift (length u) (outcomes x w i)) where
+    shift-star : (d i : ℕ) → length w - i < d → outcomes (star how x) (u ++ w) (length u + i) ≡ shift (length u) (outcomes (star how x) w i)
     shift-star zero i g = absurd (omega arith)
     shift-star (suc d) i g =
-        rw (outcomes-star (u ++ w) (length u + i) x, outcomes-star w i x, below i, replace-thenLeave (λ k. length u + k) want)
-        (ap (λ l. thenLeave l (length u + i))
-        (shift-andThen (length u) (λ k. afterTurn (length u + i) k (outcomes (star x) (u ++ w) k)) (λ k. afterTurn i k (outcomes (star x) w k))
+        rw (outcomes-star (u ++ w) (length u + i) how x, outcomes-star w i how x, below i, replace-thenLeave (λ k. length u + k) want)
+        (ap (λ l. thenLeave how l (length u + i))
+        (shift-andThen (length u) (λ k. afterTurn (length u + i) k (outcomes (star how x) (u ++ w) k)) (λ k. afterTurn i k (outcomes (star how x) w k))
         (λ k b. afterTurn-congr (length u + i) (length u + k) (λ t. shift-star d k (omega (arith, ltb→lt (length u + i) (length u + k) t)))
-        ∙ sym (replace-afterTurn (λ j. length u + j) want i k (outcomes (star x) w k) (shift-test (length u) i k)))
+        ∙ sym (replace-afterTurn (λ j. length u + j) want i k (outcomes (star how x) w k) (shift-test (length u) i k)))
         (outcomes-all x w i)))
 
   outcomes-shift : (r : Re) (i : ℕ) → outcomes r (u ++ w) (length u + i) ≡ shift (length u) (outcomes r w i)
@@ -66,7 +66,7 @@ module _ (u w : List ℕ) where
       go (b ∷ l) = rw (shift-when, add-suc)
   outcomes-shift (seq x y) i = rw (outcomes-shift x i) (shift-andThen (length u) (λ k. outcomes y (u ++ w) k) (λ k. outcomes y w k) (λ k b. outcomes-shift y k) (outcomes-all x w i))
   outcomes-shift (alt x y) i = rw (outcomes-shift x i, outcomes-shift y i, replace-append)
-  outcomes-shift (star x) i = shift-star x (λ j. outcomes-shift x j) (suc (length w)) i (omega arith)
+  outcomes-shift (star how x) i = shift-star how x (λ j. outcomes-shift x j) (suc (length w)) i (omega arith)
   outcomes-shift (field f x) i = outcomes-shift x i
 
 -- The ends of a list that are not above n.

@@ -7,7 +7,7 @@ use mathlib.Core.List.{List, [], _∷_, _++_}
 use native.Mathlib.Omega.{arith}
 use lib.ListN.{length, drop, length-drop}
 use lib.Dec.{T, ltb, ltb→lt}
-use Rattle.theory.specs.Pattern.{Re, empty, leaf, seq, alt, star, field}
+use Rattle.theory.specs.Pattern.{Manner, eager, lazy, Re, empty, leaf, seq, alt, star, field}
 use Rattle.theory.specs.Outcomes.{Outcome, endsAt, wants, andThen, when, emptyTurn, afterTurn, thenLeave, leafOutcomes, starOutcomes, outcomes}
 use Rattle.theory.proofs.Outcomes.{AllOut, none, end, wish, replace-congr, all-map, all-append, all-replace}
 use Rattle.theory.proofs.Turns.{all-thenLeave, all-afterTurn, afterTurn-congr}
@@ -19,7 +19,7 @@ pub data Leaf : Re → ℕ → Type 0 where
   seq-right : {p : ℕ} {x y : Re} → Leaf y p → Leaf (seq x y) p
   alt-left : {p : ℕ} {x y : Re} → Leaf x p → Leaf (alt x y) p
   alt-right : {p : ℕ} {x y : Re} → Leaf y p → Leaf (alt x y) p
-  under : {p : ℕ} {x : Re} → Leaf x p → Leaf (star x) p
+  under : {p : ℕ} {how : Manner} {x : Re} → Leaf x p → Leaf (star how x) p
   inside : {p f : ℕ} {x : Re} → Leaf x p → Leaf (field f x) p
 
 -- Where an end can be: not below the place, and not past the line (nor past the place, if that is past the line).
@@ -30,12 +30,12 @@ pub all-when : {K : Type 0} {P : K → Type 0} {Q : ℕ → Type 0} {l : List (O
 all-when true h = h tt
 all-when false h = none
 
-module _ {Q : ℕ → Type 0} (f : ℕ → List (Outcome ℕ)) (n : ℕ) (h : (i : ℕ) → AllOut (InLine n i) Q (f i)) where
-  pub starOutcomes-all : (d i : ℕ) → AllOut (InLine n i) Q (starOutcomes f d i)
+module _ {Q : ℕ → Type 0} (how : Manner) (f : ℕ → List (Outcome ℕ)) (n : ℕ) (h : (i : ℕ) → AllOut (InLine n i) Q (f i)) where
+  pub starOutcomes-all : (d i : ℕ) → AllOut (InLine n i) Q (starOutcomes how f d i)
   unfolding starOutcomes
   starOutcomes-all zero i = none
   starOutcomes-all (suc d) i =
-      all-thenLeave i
+      all-thenLeave how i
       (all-replace
       (λ k b. all-afterTurn i k (omega arith) λ t. all-map (λ j c. omega arith) (λ p q. q) (starOutcomes-all d k))
       (λ p q. wish q none)
@@ -43,12 +43,12 @@ module _ {Q : ℕ → Type 0} (f : ℕ → List (Outcome ℕ)) (n : ℕ) (h : (i
       (omega arith)
 
   -- Enough is enough: the number counts for nothing once it is above what is left of the line.
-  pub starOutcomes-enough : (d e i : ℕ) → n - i < d → n - i < e → starOutcomes f d i ≡ starOutcomes f e i
+  pub starOutcomes-enough : (d e i : ℕ) → n - i < d → n - i < e → starOutcomes how f d i ≡ starOutcomes how f e i
   unfolding starOutcomes
   starOutcomes-enough zero e i p q = absurd (omega arith)
   starOutcomes-enough (suc d) zero i p q = absurd (omega arith)
   starOutcomes-enough (suc d) (suc e) i p q =
-      ap (λ l. thenLeave l i)
+      ap (λ l. thenLeave how l i)
       (replace-congr
       (all-map
       (λ k b. afterTurn-congr i k λ t. starOutcomes-enough d e k (omega (arith, ltb→lt i k t)) (omega (arith, ltb→lt i k t)))
@@ -73,7 +73,7 @@ outcomes-all (alt x y) w i =
     all-append
     (all-map (λ k b. b) (λ p q. alt-left q) (outcomes-all x w i))
     (all-map (λ k b. b) (λ p q. alt-right q) (outcomes-all y w i))
-outcomes-all (star x) w i = all-map (λ k b. b) (λ p q. under q) (starOutcomes-all (outcomes x w) (length w) (λ j. outcomes-all x w j) (suc (length w)) i)
+outcomes-all (star how x) w i = all-map (λ k b. b) (λ p q. under q) (starOutcomes-all how (outcomes x w) (length w) (λ j. outcomes-all x w j) (suc (length w)) i)
 outcomes-all (field f x) w i = all-map (λ k b. b) (λ p q. inside q) (outcomes-all x w i)
 
 module _ (w : List ℕ) (i : ℕ) where
@@ -97,18 +97,23 @@ module _ (w : List ℕ) (i : ℕ) where
   unfolding outcomes
   outcomes-alt x y = refl
 
-  pub outcomes-star : (x : Re) → outcomes (star x) w i ≡ thenLeave (andThen (outcomes x w i) (λ k. afterTurn i k (outcomes (star x) w k))) i
+  pub outcomes-star : (how : Manner) (x : Re) → outcomes (star how x) w i ≡ thenLeave how (andThen (outcomes x w i) (λ k. afterTurn i k (outcomes (star how x) w k))) i
   unfolding outcomes starOutcomes
-  outcomes-star x =
-      ap (λ l. thenLeave l i)
+  outcomes-star how x =
+      ap (λ l. thenLeave how l i)
       (replace-congr
       (all-map
-      (λ k b. afterTurn-congr i k λ t. starOutcomes-enough (outcomes x w) (length w) (λ j. outcomes-all x w j) (length w) (suc (length w)) k
+      (λ k b. afterTurn-congr i k λ t. starOutcomes-enough how (outcomes x w) (length w) (λ j. outcomes-all x w j) (length w) (suc (length w)) k
       (omega (arith, ltb→lt i k t)) (omega arith))
       (λ p q. refl)
       (outcomes-all x w i)))
 
   -- r* IN ONE EQUATION: r's list with each "ends at k" replaced by r*'s list from k if k is above i, and kept as "ends at i" if k is i; then "ends at i".
-  pub outcomes-loop : (x : Re) → outcomes (star x) w i ≡ andThen (outcomes x w i) (λ k. cond (ltb i k) (outcomes (star x) w k) (endsAt i ∷ [])) ++ (endsAt i ∷ [])
+  pub outcomes-loop : (x : Re) → outcomes (star eager x) w i ≡ andThen (outcomes x w i) (λ k. cond (ltb i k) (outcomes (star eager x) w k) (endsAt i ∷ [])) ++ (endsAt i ∷ [])
   unfolding emptyTurn thenLeave
-  outcomes-loop x = outcomes-star x
+  outcomes-loop x = outcomes-star eager x
+
+  -- r*? IN ONE EQUATION: "the leaving end first and the turn after it".
+  pub outcomes-lazy-loop : (x : Re) → outcomes (star lazy x) w i ≡ endsAt i ∷ andThen (outcomes x w i) (λ k. cond (ltb i k) (outcomes (star lazy x) w k) (endsAt i ∷ []))
+  unfolding emptyTurn thenLeave
+  outcomes-lazy-loop x = outcomes-star lazy x

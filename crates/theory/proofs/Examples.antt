@@ -7,7 +7,7 @@ use mathlib.Core.Bool.{true}
 use mathlib.Core.List.{List, [], _∷_, map}
 use lib.ListN.{length}
 use lib.Dec.{eqb}
-use Rattle.theory.specs.Pattern.{Re, empty, leaf, seq, alt, star}
+use Rattle.theory.specs.Pattern.{eager, Re, empty, leaf, seq, alt, star}
 use Rattle.theory.specs.Outcomes.{emptyTurn, thenLeave, starOutcomes, outcomes}
 use Rattle.theory.specs.Spans.{Span, span, greedy}
 use Rattle.theory.specs.Base.{baseStar, base}
@@ -26,19 +26,19 @@ abbrev listed : Re → List ℕ → List (List ℕ)
 listed r w = map (places w r) (from 0 (suc (length w)))
 
 -- b⁺ on abbbabb.
-pub two : listed (seq (byte 0 98) (star (byte 1 98))) (97 ∷ 98 ∷ 98 ∷ 98 ∷ 97 ∷ 98 ∷ 98 ∷ [])
+pub two : listed (seq (byte 0 98) (star eager (byte 1 98))) (97 ∷ 98 ∷ 98 ∷ 98 ∷ 97 ∷ 98 ∷ 98 ∷ [])
     ≡ [] ∷ (4 ∷ 3 ∷ 2 ∷ []) ∷ (4 ∷ 3 ∷ []) ∷ (4 ∷ []) ∷ [] ∷ (7 ∷ 6 ∷ []) ∷ (7 ∷ []) ∷ [] ∷ []
-unfolding base baseStar
+unfolding base baseStar thenLeave
 two = refl
 
 -- aΣ*b | aΣ*c on baacaabc.
-pub three : listed (alt (seq (byte 0 97) (seq (star (any 1)) (byte 2 98))) (seq (byte 3 97) (seq (star (any 4)) (byte 5 99)))) (98 ∷ 97 ∷ 97 ∷ 99 ∷ 97 ∷ 97 ∷ 98 ∷ 99 ∷ [])
+pub three : listed (alt (seq (byte 0 97) (seq (star eager (any 1)) (byte 2 98))) (seq (byte 3 97) (seq (star eager (any 4)) (byte 5 99)))) (98 ∷ 97 ∷ 97 ∷ 99 ∷ 97 ∷ 97 ∷ 98 ∷ 99 ∷ [])
     ≡ [] ∷ (7 ∷ 8 ∷ 4 ∷ []) ∷ (7 ∷ 8 ∷ 4 ∷ []) ∷ [] ∷ (7 ∷ 8 ∷ []) ∷ (7 ∷ 8 ∷ []) ∷ [] ∷ [] ∷ [] ∷ []
-unfolding base baseStar
+unfolding base baseStar thenLeave
 three = refl
 
 abbrev empty-or-a : Re
-empty-or-a = star (alt empty (byte 0 97))
+empty-or-a = star eager (alt empty (byte 0 97))
 
 -- SOURCE 000'S ORDER IS NOT THE GREEDY ONE where a repeat stands over a part that matches empty: its greedy denotation of `(|a)*` on aa is 0 2 and no other, the
 -- greedy span is 0 0.

@@ -8,7 +8,7 @@ use native.Mathlib.Omega.{arith}
 use lib.ListN.{length, drop, length-drop, length-append}
 use lib.Seq.{drop-append-le, drop-length}
 use lib.Dec.{ltb, ltb→lt, lt→ltb, eqb, eqb-refl, eqb→eq}
-use Rattle.theory.specs.Pattern.{Re, empty, leaf, seq, alt, star, field, has, count, Numbered}
+use Rattle.theory.specs.Pattern.{Manner, Re, empty, leaf, seq, alt, star, field, has, count, Numbered}
 use Rattle.theory.specs.Outcomes.{Outcome, endsAt, wants, replace, want, andThen, when, emptyTurn, afterTurn, thenLeave, leafOutcomes, outcomes}
 use Rattle.theory.specs.Code.Follow.{Next, start, follow, after}
 use Rattle.theory.proofs.Outcomes.{AllOut, replace-append, replace-congr, replace-replace, all-map}
@@ -27,7 +27,7 @@ has-none empty p b h = refl
 has-none (leaf q s) p b h = rw (not-true (eqb p q) λ t. h (rw (eqb→eq p q t) Leaf.here))
 has-none (seq x y) p b h = rw (has-none x p b (λ l. h (seq-left l)), has-none y p b (λ l. h (seq-right l)))
 has-none (alt x y) p b h = rw (has-none x p b (λ l. h (alt-left l)), has-none y p b (λ l. h (alt-right l)))
-has-none (star x) p b h = has-none x p b (λ l. h (under l))
+has-none (star how x) p b h = has-none x p b (λ l. h (under l))
 has-none (field f x) p b h = has-none x p b (λ l. h (inside l))
 
 pub follow-none : (r : Re) (p : ℕ) → (Leaf r p → ⊥) → follow r p ≡ []
@@ -36,7 +36,7 @@ follow-none empty p h = refl
 follow-none (leaf q s) p h = rw (not-true (eqb p q) λ t. h (rw (eqb→eq p q t) Leaf.here))
 follow-none (seq x y) p h = rw (follow-none x p (λ l. h (seq-left l)), follow-none y p (λ l. h (seq-right l)))
 follow-none (alt x y) p h = rw (follow-none x p (λ l. h (alt-left l)), follow-none y p (λ l. h (alt-right l)))
-follow-none (star x) p h = rw (follow-none x p (λ l. h (under l)))
+follow-none (star how x) p h = rw (follow-none x p (λ l. h (under l)))
 follow-none (field f x) p h = follow-none x p (λ l. h (inside l))
 
 -- To read a list at the place n and go on from there is to go on from n.
@@ -59,11 +59,11 @@ outcomes-end empty w = refl
 outcomes-end (leaf p s) w = rw (drop-length w)
 outcomes-end (seq x y) w = rw (outcomes-end x w, andThen-place, place-andThen) (ap (λ l. andThen (start x) (λ _. l)) (outcomes-end y w))
 outcomes-end (alt x y) w = rw (outcomes-end x w, outcomes-end y w, replace-append)
-outcomes-end (star x) w =
-    outcomes-star w (length w) x
+outcomes-end (star how x) w =
+    outcomes-star w (length w) how x
     ∙ rw (outcomes-end x w, andThen-place, ltb-self)
-    (ap (λ l. thenLeave l (length w)) (ap (λ l. andThen (start x) (λ _. l)) (sym (replace-emptyTurn (λ _. length w) want tt)) ∙ sym (place-andThen (length w) (start x) emptyTurn))
-    ∙ sym (replace-thenLeave (λ _. length w) want (andThen (start x) emptyTurn) tt))
+    (ap (λ l. thenLeave how l (length w)) (ap (λ l. andThen (start x) (λ _. l)) (sym (replace-emptyTurn (λ _. length w) want tt)) ∙ sym (place-andThen (length w) (start x) emptyTurn))
+    ∙ sym (replace-thenLeave (λ _. length w) want how (andThen (start x) emptyTurn) tt))
 outcomes-end (field f x) w = outcomes-end x w
 
 -- What follows a leaf in a part is what follows it in the one below that has the leaf.
@@ -92,11 +92,11 @@ module _ (b p : ℕ) (x y : Re) where
   unfolding has follow
   after-alt-right h = rw (has-none x p b h, follow-none x p h)
 
-after-star : (b p : ℕ) (x : Re) → after (star x) b p ≡ andThen (after x b p) (λ _. start (star x))
+after-star : (b p : ℕ) (how : Manner) (x : Re) → after (star how x) b p ≡ andThen (after x b p) (λ _. start (star how x))
 unfolding has follow
-after-star b p x = go (has x p b)
+after-star b p how x = go (has x p b)
   where
-    go : (c : Bool) → when c (andThen (follow x p) (λ _. start (star x))) ≡ andThen (when c (follow x p)) (λ _. start (star x))
+    go : (c : Bool) → when c (andThen (follow x p) (λ _. start (star how x))) ≡ andThen (when c (follow x p)) (λ _. start (star how x))
     go true = refl
     go false = refl
 
@@ -136,9 +136,9 @@ grow-afterTurn : (r : Re) (b n i k : ℕ) (l : List (Outcome ℕ)) → grow r b 
 unfolding grow
 grow-afterTurn r b n i k l = replace-afterTurn (λ j. j) (λ p. place (suc n) (after r b p)) i k l refl
 
-grow-thenLeave : (r : Re) (b n i : ℕ) (l : List (Outcome ℕ)) → grow r b n (thenLeave l i) ≡ thenLeave (grow r b n l) i
+grow-thenLeave : (r : Re) (b n i : ℕ) (how : Manner) (l : List (Outcome ℕ)) → grow r b n (thenLeave how l i) ≡ thenLeave how (grow r b n l) i
 unfolding grow
-grow-thenLeave r b n i l = replace-thenLeave (λ j. j) (λ p. place (suc n) (after r b p)) l i
+grow-thenLeave r b n i how l = replace-thenLeave (λ j. j) (λ p. place (suc n) (after r b p)) how l i
 
 -- A part r that takes x first and goes on by G, and by F once the line has grown.
 grow-andThen : (b n : ℕ) (x r : Re) {P : ℕ → Type 0} (F G : ℕ → List (Outcome ℕ)) {l : List (Outcome ℕ)} → AllOut P (Leaf x) l
@@ -173,15 +173,15 @@ module _ (w : List ℕ) (b : ℕ) where
   outcomes-after : (x y : Re) (p : ℕ) → andThen (after x b p) (λ _. outcomes y (w ++ (b ∷ [])) (suc (length w))) ≡ place (suc (length w)) (andThen (after x b p) (λ _. start y))
   outcomes-after x y p = rw (outcomes-past, place-andThen)
 
-  module _ (x : Re) (below : (i : ℕ) → i ≤ length w → outcomes x (w ++ (b ∷ [])) i ≡ grow x b (length w) (outcomes x w i)) where
-    extend-star : (d i : ℕ) → length w - i < d → i ≤ length w → outcomes (star x) (w ++ (b ∷ [])) i ≡ grow (star x) b (length w) (outcomes (star x) w i)
+  module _ (how : Manner) (x : Re) (below : (i : ℕ) → i ≤ length w → outcomes x (w ++ (b ∷ [])) i ≡ grow x b (length w) (outcomes x w i)) where
+    extend-star : (d i : ℕ) → length w - i < d → i ≤ length w → outcomes (star how x) (w ++ (b ∷ [])) i ≡ grow (star how x) b (length w) (outcomes (star how x) w i)
     extend-star zero i g h = absurd (omega arith)
     extend-star (suc d) i g h =
-        rw (outcomes-star (w ++ (b ∷ [])) i x, outcomes-star w i x, below i h, grow-thenLeave)
-        (ap (λ l. thenLeave l i)
-        (grow-andThen b (length w) x (star x) (λ k. afterTurn i k (outcomes (star x) (w ++ (b ∷ [])) k)) (λ k. afterTurn i k (outcomes (star x) w k)) (outcomes-all x w i)
-        (λ k c. afterTurn-congr i k (λ t. extend-star d k (omega (arith, ltb→lt i k t)) (omega arith)) ∙ sym (grow-afterTurn (star x) b (length w) i k _))
-        (λ p q. rw (T-true (ltb i (suc (length w))) (lt→ltb i (suc (length w)) (omega arith))) (outcomes-after x (star x) p ∙ ap (place (suc (length w))) (sym (after-star b p x))))))
+        rw (outcomes-star (w ++ (b ∷ [])) i how x, outcomes-star w i how x, below i h, grow-thenLeave)
+        (ap (λ l. thenLeave how l i)
+        (grow-andThen b (length w) x (star how x) (λ k. afterTurn i k (outcomes (star how x) (w ++ (b ∷ [])) k)) (λ k. afterTurn i k (outcomes (star how x) w k)) (outcomes-all x w i)
+        (λ k c. afterTurn-congr i k (λ t. extend-star d k (omega (arith, ltb→lt i k t)) (omega arith)) ∙ sym (grow-afterTurn (star how x) b (length w) i k _))
+        (λ p q. rw (T-true (ltb i (suc (length w))) (lt→ltb i (suc (length w)) (omega arith))) (outcomes-after x (star how x) p ∙ ap (place (suc (length w))) (sym (after-star b p how x))))))
 
   pub extend : (r : Re) (n : ℕ) → Numbered n r → (i : ℕ) → i ≤ length w → outcomes r (w ++ (b ∷ [])) i ≡ grow r b (length w) (outcomes r w i)
   unfolding outcomes grow Numbered
@@ -198,5 +198,5 @@ module _ (w : List ℕ) (b : ℕ) where
       (ap₂ _++_
       (grow-congr b (length w) x (alt x y) (λ p q. sym (after-alt-left b p x y (apart n (d .0) (d .1) q))) (outcomes-all x w i))
       (grow-congr b (length w) y (alt x y) (λ p q. sym (after-alt-right b p x y λ l. apart n (d .0) (d .1) l q)) (outcomes-all y w i)))
-  extend (star x) n d i h = extend-star x (λ j. extend x n d j) (suc (length w)) i (omega arith) h
+  extend (star how x) n d i h = extend-star how x (λ j. extend x n d j) (suc (length w)) i (omega arith) h
   extend (field f x) n d i h = extend x n d i h ∙ grow-congr b (length w) x (field f x) (λ p q. sym (after-field b p f x)) (outcomes-all x w i)

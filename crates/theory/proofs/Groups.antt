@@ -56,7 +56,7 @@ module _ (f : ℕ → ℕ) where
   Keeps (leaf p s) = (b : ℕ) → s b ≡ s (f b)
   Keeps (seq x y) = Keeps x × Keeps y
   Keeps (alt x y) = Keeps x × Keeps y
-  Keeps (star x) = Keeps x
+  Keeps (star how x) = Keeps x
   Keeps (field n x) = Keeps x
 
   -- The leaf p of a part holds the byte b exactly if it holds f b.
@@ -87,7 +87,7 @@ module _ (f : ℕ → ℕ) where
   keeps (leaf q s) n d h = λ b. let here : eqb q q ≡ _ = T-true (eqb q q) (eqb-refl q) in ap (λ z. z && s b) (sym here) ∙ h q b ∙ ap (λ z. z && s (f b)) here
   keeps (seq x y) n d h = (keeps x n (d .0) (even-left x y n (d .0) (d .1) h), keeps y (n + count x) (d .1) (even-right x y n (d .0) (d .1) h))
   keeps (alt x y) n d h = (keeps x n (d .0) (even-left x y n (d .0) (d .1) h), keeps y (n + count x) (d .1) (even-right x y n (d .0) (d .1) h))
-  keeps (star x) n d h = keeps x n d h
+  keeps (star how x) n d h = keeps x n d h
   keeps (field m x) n d h = keeps x n d h
 
   drop-map : (i : ℕ) (w : List ℕ) → drop i (map f w) ≡ map f (drop i w)
@@ -106,7 +106,7 @@ module _ (f : ℕ → ℕ) where
   same-outcomes (leaf p s) h w i = ap (leafOutcomes p s i) (drop-map i w) ∙ leaf-same p s h i (drop i w)
   same-outcomes (seq x y) h w i = λ j. andThen (same-outcomes x (h .0) w i j) (λ k. same-outcomes y (h .1) w k j)
   same-outcomes (alt x y) h w i = ap₂ _++_ (same-outcomes x (h .0) w i) (same-outcomes y (h .1) w i)
-  same-outcomes (star x) h w i = λ j. starOutcomes (λ k. same-outcomes x h w k j) (suc (length-map w f j)) i
+  same-outcomes (star how x) h w i = λ j. starOutcomes how (λ k. same-outcomes x h w k j) (suc (length-map w f j)) i
   same-outcomes (field n x) h w i = same-outcomes x h w i
 
   module _ (r : Re) (d : Numbered 0 r) (same : (b : ℕ) → SameGroup r b (f b)) where

@@ -22,7 +22,9 @@ pub mod Search
 pub mod Records
 pub mod Run
 pub mod Groups
--- What the requested changes leave as it was.
+-- Sets of outcomes; what depends on no preference; what the requested changes leave as it was.
+pub mod Sets
+pub mod Reordered
 pub mod Unmoved
 -- Source 000's order of preference and denotations.
 pub mod Ranked

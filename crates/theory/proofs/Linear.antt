@@ -5,7 +5,7 @@ use mathlib.Core.Logic.{_⊎_, inl, inr, _↔_}
 use Prim.Native.Nat.{ℕ}
 use mathlib.Core.List.{List, [], _∷_, List·Memᴰ as Mem}
 use native.Mathlib.Decide.{ℕ-discrete}
-use Rattle.theory.specs.Pattern.{Re, empty, leaf, seq, alt, star, field}
+use Rattle.theory.specs.Pattern.{Manner, Re, empty, leaf, seq, alt, star, field}
 use Rattle.theory.specs.Matching.{Matches, m-seq, m-left, m-right, m-done, m-again, m-field}
 use Rattle.theory.specs.Preference.{Least, ByLeast, by-least, AltWay, altEnd, AltLess, left, right, SeqLess, first, second, StarWay, starEnd, StarLess, turn, rest, Prefer}
 use Rattle.theory.proofs.Tests.{either}
@@ -34,11 +34,11 @@ module _ (P : ℕ → ℕ → Type 0) (Q : ℕ → ℕ → ℕ → Type 0) (p : 
   seq-asym a b (second {j = i} {k = j} {k′ = k} l) (second m) = q i j k l m
 
 module _ (P : ℕ → ℕ → ℕ → Type 0) (p : (i j k : ℕ) → P i j k → P i k j → ⊥) where
-  star-asym : (i : ℕ) (a b : List ℕ) → StarLess P i a b → StarLess P i b a → ⊥
-  star-asym i a b (turn {j = j} {j′ = k} l) (turn m) = p i j k l m
-  star-asym i a b (turn {j = j} l) (rest m) = p i j j l l
-  star-asym i a b (rest l) (turn {j = j} m) = p i j j m m
-  star-asym i a b (rest {j = j} {s = s} {s′ = t} l) (rest m) = star-asym j s t l m
+  star-asym : (how : Manner) (i : ℕ) (a b : List ℕ) → StarLess P how i a b → StarLess P how i b a → ⊥
+  star-asym how i a b (turn {j = j} {j′ = k} l) (turn m) = p i j k l m
+  star-asym how i a b (turn {j = j} l) (rest m) = p i j j l l
+  star-asym how i a b (rest l) (turn {j = j} m) = p i j j m m
+  star-asym how i a b (rest {j = j} {s = s} {s′ = t} l) (rest m) = star-asym how j s t l m
 
 pub asym : (w : List ℕ) (r : Re) (i j k : ℕ) → Prefer w r i j k → Prefer w r i k j → ⊥
 unfolding Prefer
@@ -46,7 +46,7 @@ asym w empty i j k l m = l
 asym w (leaf p s) i j k l m = l
 asym w (alt x y) i j k l m = flat-asym (alt-asym (Prefer w x i) (Prefer w y i) (asym w x i) (asym w y i)) l m
 asym w (seq x y) i j k l m = flat-asym (seq-asym (Prefer w x i) (Prefer w y) (asym w x i) (asym w y)) l m
-asym w (star x) i j k l m = flat-asym (star-asym (Prefer w x) (asym w x) i) l m
+asym w (star how x) i j k l m = flat-asym (star-asym (Prefer w x) (asym w x) how i) l m
 asym w (field f x) i j k l m = asym w x i j k l m
 
 -- It is an order of matches: a way flattens to a match.
@@ -58,9 +58,9 @@ module _ (w : List ℕ) where
   alt-match x y i (inl j) m = m-left m
   alt-match x y i (inr j) m = m-right m
 
-  star-match : (x : Re) (i : ℕ) (a : List ℕ) → StarWay w x i a → Matches w (star x) i (starEnd i a)
-  star-match x i [] m = m-done
-  star-match x i (j ∷ s) (l, m, n) = m-again l m (star-match x j s n)
+  star-match : (how : Manner) (x : Re) (i : ℕ) (a : List ℕ) → StarWay w x i a → Matches w (star how x) i (starEnd i a)
+  star-match how x i [] m = m-done
+  star-match how x i (j ∷ s) (l, m, n) = m-again l m (star-match how x j s n)
 
   pub matches : (r : Re) (i j k : ℕ) → Prefer w r i j k → Matches w r i j × Matches w r i k
   unfolding Prefer
@@ -68,7 +68,7 @@ module _ (w : List ℕ) where
   matches (leaf p s) i j k l = absurd l
   matches (alt x y) i j k l = flat-in (Matches w (alt x y) i) (alt-match x y i) l
   matches (seq x y) i j k l = flat-in (Matches w (seq x y) i) (λ a m. m-seq (m .0) (m .1)) l
-  matches (star x) i j k l = flat-in (Matches w (star x) i) (star-match x i) l
+  matches (star how x) i j k l = flat-in (Matches w (star how x) i) (star-match how x i) l
   matches (field f x) i j k l = let (a, b) = matches x i j k l in (m-field a, m-field b)
 
   module _ (r : Re) (i : ℕ) where

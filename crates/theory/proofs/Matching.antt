@@ -10,7 +10,7 @@ use native.Mathlib.Nat.{add-zero}
 use lib.ListN.{length, drop, getD, length-drop}
 use lib.Seq.{drop-cons, getD-drop}
 use lib.Dec.{T, eqb, eqb→eq, eqb-refl, ltb, ltb→lt, lt→ltb}
-use Rattle.theory.specs.Pattern.{Re, empty, leaf, seq, alt, star, field}
+use Rattle.theory.specs.Pattern.{Manner, Re, empty, leaf, seq, alt, star, field}
 use Rattle.theory.specs.Outcomes.{Outcome, endsAt, wants, andThen, when, afterTurn, leafOutcomes, outcomes}
 use Rattle.theory.specs.Standing.{someIs}
 use Rattle.theory.specs.Matching.{Matches, m-empty, m-leaf, m-seq, m-left, m-right, m-done, m-again, m-field}
@@ -48,20 +48,20 @@ alone : (j k : ℕ) → T (someIs k (endsAt j ∷ [])) → j ≡ k
 alone j k m = either (λ e. eqb→eq j k e) (λ n. absurd n) (or-cases (eqb j k) false m)
 
 module _ (w : List ℕ) where
-  module _ (x : Re) (below : (i k : ℕ) → T (someIs k (outcomes x w i)) → Matches w x i k) where
-    star-ends : (d i k : ℕ) → length w - i < d → T (someIs k (outcomes (star x) w i)) → Matches w (star x) i k
+  module _ (how : Manner) (x : Re) (below : (i k : ℕ) → T (someIs k (outcomes x w i)) → Matches w x i k) where
+    star-ends : (d i k : ℕ) → length w - i < d → T (someIs k (outcomes (star how x) w i)) → Matches w (star how x) i k
     star-ends zero i k g m = absurd (omega arith)
     star-ends (suc d) i k g m =
         either
         (λ t.
-        let c = some-found (λ j. afterTurn i j (outcomes (star x) w j)) k (outcomes x w i) t in
+        let c = some-found (λ j. afterTurn i j (outcomes (star how x) w j)) k (outcomes x w i) t in
         let b = some-in (outcomes-all x w i) (c .0) (c .1) in
         either
         (λ e. let h = ltb→lt i (c .0) (e .0) in m-again h (below i (c .0) (c .1)) (star-ends d (c .0) k (omega arith) (e .1)))
         (λ e. rw e m-done)
-        (some-afterTurn i (c .0) k (outcomes (star x) w (c .0)) (c .2)))
+        (some-afterTurn i (c .0) k (outcomes (star how x) w (c .0)) (c .2)))
         (λ e. rw e m-done)
-        (some-star i k (andThen (outcomes x w i) (λ j. afterTurn i j (outcomes (star x) w j))) (rw (outcomes-star w i x) at m))
+        (some-star how i k (andThen (outcomes x w i) (λ j. afterTurn i j (outcomes (star how x) w j))) (rw (outcomes-star w i how x) at m))
 
   pub ends-match : (r : Re) (i k : ℕ) → T (someIs k (outcomes r w i)) → Matches w r i k
   unfolding outcomes
@@ -80,7 +80,7 @@ module _ (w : List ℕ) where
       m-seq (ends-match x i (c .0) (c .1)) (ends-match y (c .0) k (c .2))
   ends-match (alt x y) i k m =
       either (λ t. m-left (ends-match x i k t)) (λ t. m-right (ends-match y i k t)) (some-cases k (outcomes x w i) (outcomes y w i) m)
-  ends-match (star x) i k m = star-ends x (λ j c. ends-match x j c) (suc (length w)) i k (omega arith) m
+  ends-match (star how x) i k m = star-ends how x (λ j c. ends-match x j c) (suc (length w)) i k (omega arith) m
   ends-match (field f x) i k m = m-field (ends-match x i k m)
 
   self : (i : ℕ) → T (someIs i (endsAt i ∷ []))
@@ -93,9 +93,9 @@ module _ (w : List ℕ) where
   match-ends (m-seq {x = x} {y = y} {i = i} {k = j} {j = k} a b) = some-of (λ c. outcomes y w c) k (outcomes x w i) j (match-ends a) (match-ends b)
   match-ends (m-left {x = x} {y = y} {i = i} {j = k} a) = some-left k (outcomes x w i) (outcomes y w i) (match-ends a)
   match-ends (m-right {x = x} {y = y} {i = i} {j = k} a) = some-right k (outcomes x w i) (outcomes y w i) (match-ends a)
-  match-ends (m-done {x = x} {i = i}) = rw (outcomes-star w i x) (some-leave i (andThen (outcomes x w i) (λ c. afterTurn i c (outcomes (star x) w c))))
-  match-ends (m-again {x = x} {i = i} {k = j} {j = k} h a b) =
-      rw (outcomes-star w i x)
-      (some-turns i k (andThen (outcomes x w i) (λ c. afterTurn i c (outcomes (star x) w c)))
-      (some-of (λ c. afterTurn i c (outcomes (star x) w c)) k (outcomes x w i) j (match-ends a) (rw (T-true (ltb i j) (lt→ltb i j h)) (match-ends b))))
+  match-ends (m-done {how = how} {x = x} {i = i}) = rw (outcomes-star w i how x) (some-leave how i (andThen (outcomes x w i) (λ c. afterTurn i c (outcomes (star how x) w c))))
+  match-ends (m-again {how = how} {x = x} {i = i} {k = j} {j = k} h a b) =
+      rw (outcomes-star w i how x)
+      (some-turns how i k (andThen (outcomes x w i) (λ c. afterTurn i c (outcomes (star how x) w c)))
+      (some-of (λ c. afterTurn i c (outcomes (star how x) w c)) k (outcomes x w i) j (match-ends a) (rw (T-true (ltb i j) (lt→ltb i j h)) (match-ends b))))
   match-ends (m-field a) = match-ends a

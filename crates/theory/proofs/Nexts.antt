@@ -28,5 +28,5 @@ follow-all (leaf q s) p = all-when (eqb p q) (λ t. end tt none)
 follow-all (seq x y) p =
     all-append (all-replace (λ k u. all-map (λ _ v. v) (λ q l. seq-right l) (start-all y)) (λ q l. wish (seq-left l) none) (follow-all x p)) (all-map (λ _ v. v) (λ q l. seq-right l) (follow-all y p))
 follow-all (alt x y) p = all-append (all-map (λ _ v. v) (λ q l. alt-left l) (follow-all x p)) (all-map (λ _ v. v) (λ q l. alt-right l) (follow-all y p))
-follow-all (star x) p = all-replace (λ k u. start-all (star x)) (λ q l. wish (under l) none) (follow-all x p)
+follow-all (star how x) p = all-replace (λ k u. start-all (star how x)) (λ q l. wish (under l) none) (follow-all x p)
 follow-all (field f x) p = all-map (λ _ v. v) (λ q l. inside l) (follow-all x p)

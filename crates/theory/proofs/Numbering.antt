@@ -10,7 +10,7 @@ number-count n empty = refl
 number-count n (leaf p s) = refl
 number-count n (seq x y) = rw (number-count n x, number-count (n + count x) y)
 number-count n (alt x y) = rw (number-count n x, number-count (n + count x) y)
-number-count n (star x) = number-count n x
+number-count n (star how x) = number-count n x
 number-count n (field f x) = number-count n x
 
 pub number-right : (n : ℕ) (r : Re) → Numbered n (number n r)
@@ -19,5 +19,5 @@ number-right n empty = tt
 number-right n (leaf p s) = refl
 number-right n (seq x y) = (number-right n x, rw (number-count n x) (number-right (n + count x) y))
 number-right n (alt x y) = (number-right n x, rw (number-count n x) (number-right (n + count x) y))
-number-right n (star x) = number-right n x
+number-right n (star how x) = number-right n x
 number-right n (field f x) = number-right n x

@@ -11,12 +11,12 @@ use native.Mathlib.Omega.{arith}
 use native.Mathlib.Decide.{ℕ-discrete}
 use lib.ListN.{length, drop}
 use lib.Dec.{T, eqb, eqb→eq, eqb-refl, ltb, ltb→lt, lt→ltb}
-use Rattle.theory.specs.Pattern.{Re, empty, leaf, seq, alt, star, field}
-use Rattle.theory.specs.Outcomes.{Outcome, endsAt, wants, andThen, when, leafOutcomes, outcomes}
+use Rattle.theory.specs.Pattern.{Manner, eager, lazy, Re, empty, leaf, seq, alt, star, field}
+use Rattle.theory.specs.Outcomes.{Outcome, endsAt, wants, andThen, when, leafOutcomes, thenLeave, outcomes}
 use Rattle.theory.specs.Base.{baseStar, base}
 use Rattle.theory.specs.Standing.{someIs}
 use Rattle.theory.specs.Matching.{Matches}
-use Rattle.theory.specs.Preference.{ByLeast, AltWay, AltLess, left, right, left-right, SeqWay, seqEnd, SeqLess, first, second, StarWay, starEnd, StarLess, turn, rest, more, Prefer}
+use Rattle.theory.specs.Preference.{ByLeast, AltWay, AltLess, left, right, left-right, SeqWay, seqEnd, SeqLess, first, second, StarWay, starEnd, StarLess, turn, rest, more, less, Prefer}
 use Rattle.theory.proofs.Tests.{either, or-left, or-right, or-cases}
 use Rattle.theory.proofs.Equations.{outcomes-all}
 use Rattle.theory.proofs.Outcomes.{ends, some-in}
@@ -47,12 +47,22 @@ ends-then g h ρ f e (endsAt k ∷ l) = rw (ends-append, e k, ends-then g h ρ f
 ends-then g h ρ f e (wants p ∷ l) = ends-then g h ρ f e l
 
 -- The sequences of at most d turns from i, the preferred first; f has the ends of a turn.
-turns : (ℕ → List ℕ) → ℕ → ℕ → List (List ℕ)
-turns f zero i = []
-turns f (suc d) i = each _∷_ (λ j. when (ltb i j) (turns f d j)) (f i) ++ ([] ∷ [])
+abbrev orNone : Manner → List (List ℕ) → List (List ℕ)
+orNone eager l = l ++ ([] ∷ [])
+orNone lazy l = [] ∷ l
 
-abbrev tails : (ℕ → List ℕ) → ℕ → ℕ → ℕ → List (List ℕ)
-tails f d i j = when (ltb i j) (turns f d j)
+turns : Manner → (ℕ → List ℕ) → ℕ → ℕ → List (List ℕ)
+turns how f zero i = []
+turns how f (suc d) i = orNone how (each _∷_ (λ j. when (ltb i j) (turns how f d j)) (f i))
+
+abbrev tails : Manner → (ℕ → List ℕ) → ℕ → ℕ → ℕ → List (List ℕ)
+tails how f d i j = when (ltb i j) (turns how f d j)
+
+-- .. so do their ends.
+ends-leave : (how : Manner) (i : ℕ) (l : List (Outcome ℕ)) (m : List (List ℕ)) → ends l ≡ map (starEnd i) m → ends (thenLeave how l i) ≡ map (starEnd i) (orNone how m)
+unfolding thenLeave
+ends-leave eager i l m e = rw (ends-append, map-append, e)
+ends-leave lazy i l m e = rw e
 
 -- An empty turn is no way.
 ends-turn : {C : Type 0} (ρ : C → ℕ) (l : List (Outcome ℕ)) (m : List C) (b : Bool) → ends l ≡ map ρ m → ends (when b l) ≡ map ρ (when b m)
@@ -103,29 +113,44 @@ module _ (w : List ℕ) where
         ranks-iff (λ a (j, k, m, n, e). subst (SeqWay w x y i) (sym e) (m, n)) (λ a m. (a .0, a .1, m .0, m .1, refl))
         (ranks-each (λ j k. (j, k)) (places y) ℕ-discrete (λ j k c d e. (ap (λ a. a .0) e, ap (λ a. a .1) e)) (λ j k c d l. first l) (λ j c d l. second l) p (λ j m. q j))
 
-  module _ (x : Re) where
-    turns-ends : (d i : ℕ) → ends (baseStar (base x w) d i) ≡ map (starEnd i) (turns (places x) d i)
+  module _ (how : Manner) (x : Re) where
+    turns-ends : (d i : ℕ) → ends (baseStar how (base x w) d i) ≡ map (starEnd i) (turns how (places x) d i)
     unfolding baseStar turns
     turns-ends zero i = refl
     turns-ends (suc d) i =
-        rw (ends-append, ends-then _∷_ (tails (places x) d i) (starEnd i) (λ k. when (ltb i k) (baseStar (base x w) d k)) (λ k. ends-turn (starEnd k) (baseStar (base x w) d k) (turns (places x) d k) (ltb i k) (turns-ends d k)) (base x w i), map-append)
+        ends-leave how i (andThen (base x w i) (λ k. when (ltb i k) (baseStar how (base x w) d k))) (each _∷_ (tails how (places x) d i) (places x i))
+        (ends-then _∷_ (tails how (places x) d i) (starEnd i) (λ k. when (ltb i k) (baseStar how (base x w) d k))
+        (λ k. ends-turn (starEnd k) (baseStar how (base x w) d k) (turns how (places x) d k) (ltb i k) (turns-ends d k)) (base x w i))
 
-    star-ways : ((i : ℕ) → Ranked x i) → (d i : ℕ) → length w - i < d → Ranks (StarWay w x i) (StarLess (Prefer w x) i) (turns (places x) d i)
-    unfolding turns
-    star-ways p zero i h = absurd (omega arith)
-    star-ways p (suc d) i h =
-        ranks-iff (λ a. either (λ (j, s, m, n, e). subst (StarWay w x i) (sym e) (n .0, m, n .1)) (λ e. subst (StarWay w x i) (sym e) tt)) back
-        (ranks-append
-        (ranks-each _∷_ (tails (places x) d i) ℕ-discrete (λ j k s t e. (cc, cc)) (λ j k s t l. turn l) (λ j s t l. rest l) (p i)
-        (λ j m.
-        let b = some-in (outcomes-all x w i) j (as-end x i j m) in
-        ranks-when (ltb i j) (ltb→lt i j) (lt→ltb i j) (λ l. star-ways p d j (omega arith))))
-        (ranks-one [])
-        (λ a b (j, s, m, n, e) f. subst₂ (StarLess (Prefer w x) i) (sym e) (sym f) more))
-      where
-        back : (a : List ℕ) → StarWay w x i a → ((j : ℕ) × (s : List ℕ) × Matches w x i j × ((i < j) × StarWay w x j s) × (a ≡ j ∷ s)) ⊎ (a ≡ [])
-        back [] m = inr refl
-        back (j ∷ s) (l, m, n) = inl (j, s, m, (l, n), refl)
+    -- A first turn from i and what goes on from there.
+    abbrev Turn : ℕ → List ℕ → Type 0
+    Turn i a = (j : ℕ) × (s : List ℕ) × Matches w x i j × ((i < j) × StarWay w x j s) × (a ≡ j ∷ s)
+
+    way-of : (i : ℕ) (a : List ℕ) → Turn i a ⊎ (a ≡ []) → StarWay w x i a
+    way-of i a = either (λ (j, s, m, n, e). subst (StarWay w x i) (sym e) (n .0, m, n .1)) (λ e. subst (StarWay w x i) (sym e) tt)
+
+    of-way : (i : ℕ) (a : List ℕ) → StarWay w x i a → Turn i a ⊎ (a ≡ [])
+    of-way i [] m = inr refl
+    of-way i (j ∷ s) (l, m, n) = inl (j, s, m, (l, n), refl)
+
+  -- The turns, and none: first or last.
+  or-none : (how : Manner) (x : Re) (i : ℕ) {l : List (List ℕ)} → Ranks (Turn how x i) (StarLess (Prefer w x) how i) l → Ranks (StarWay w x i) (StarLess (Prefer w x) how i) (orNone how l)
+  or-none eager x i p =
+      ranks-iff (way-of eager x i) (of-way eager x i)
+      (ranks-append p (ranks-one []) (λ a b (j, s, m, n, e) f. subst₂ (StarLess (Prefer w x) eager i) (sym e) (sym f) more))
+  or-none lazy x i p =
+      ranks-iff (λ a t. way-of lazy x i a (either inr inl t)) (λ a m. either inr inl (of-way lazy x i a m))
+      (ranks-append (ranks-one []) p (λ a b f (j, s, m, n, e). subst₂ (StarLess (Prefer w x) lazy i) (sym f) (sym e) less))
+
+  star-ways : (how : Manner) (x : Re) → ((i : ℕ) → Ranked x i) → (d i : ℕ) → length w - i < d → Ranks (StarWay w x i) (StarLess (Prefer w x) how i) (turns how (places x) d i)
+  unfolding turns
+  star-ways how x p zero i h = absurd (omega arith)
+  star-ways how x p (suc d) i h =
+      or-none how x i
+      (ranks-each _∷_ (tails how (places x) d i) ℕ-discrete (λ j k s t e. (cc, cc)) (λ j k s t l. turn l) (λ j s t l. rest l) (p i)
+      (λ j m.
+      let b = some-in (outcomes-all x w i) j (as-end x i j m) in
+      ranks-when (ltb i j) (ltb→lt i j) (lt→ltb i j) (λ l. star-ways how x p d j (omega arith))))
 
   -- THE ENDS ARE IN THE ORDER OF PREFERENCE.
   pub in-order : (r : Re) (i : ℕ) → Ranked r i
@@ -138,5 +163,5 @@ module _ (w : List ℕ) where
       ranked {r = seq x y}
       (by-ways (×-discrete ℕ-discrete ℕ-discrete) (seq-ways x y i (in-order x i) (in-order y))
       (ends-then (λ j k. (j, k)) (places y) seqEnd (base y w) (λ k. sym (map-id (places y k))) (base x w i)))
-  in-order (star x) i = ranked {r = star x} (by-ways (List-discrete ℕ-discrete) (star-ways x (in-order x) (suc (length w)) i (omega arith)) (turns-ends x (suc (length w)) i))
+  in-order (star how x) i = ranked {r = star how x} (by-ways (List-discrete ℕ-discrete) (star-ways how x (in-order x) (suc (length w)) i (omega arith)) (turns-ends how x (suc (length w)) i))
   in-order (field f x) i = ranked {r = field f x} (in-order x i .sorted)

@@ -5,11 +5,12 @@ use mathlib.Core.Path.{_≡_, refl, ap}
 use mathlib.Core.Logic.{_⊎_, inl, inr}
 use Prim.Native.Nat.{ℕ}
 use mathlib.Core.Bool.{Bool, true, false, cond}
-use mathlib.Core.List.{List, [], _∷_, List·Memᴰ as Mem, List·Memᴰ·head as head, List·Memᴰ·append-cases, List·Memᴰ·eq-of-singleton, Memᴰ·append-left, Memᴰ·append-right}
+use mathlib.Core.List.{List, [], _∷_, List·Memᴰ as Mem, List·Memᴰ·head as head, List·Memᴰ·tail as tail, List·Memᴰ·cases-cons, List·Memᴰ·append-cases, List·Memᴰ·eq-of-singleton, Memᴰ·append-left, Memᴰ·append-right}
 use lib.Dec.{T, eqb, eqb→eq, eqb-refl, ltb}
+use Rattle.theory.specs.Pattern.{Manner, eager, lazy}
 use Rattle.theory.specs.Outcomes.{Outcome, endsAt, wants, replace, andThen, emptyTurn, afterTurn, thenLeave}
 use Rattle.theory.specs.Standing.{someIs}
-use Rattle.theory.proofs.Tests.{or-left, or-cases, either}
+use Rattle.theory.proofs.Tests.{or-left, or-right, or-cases, either}
 use Rattle.theory.proofs.Outcomes.{AllOut, none, end, replace-append, all-append, some-in, some-cases, some-left, some-right}
 
 module _ {K : Type 0} {P : K → Type 0} {Q : ℕ → Type 0} where
@@ -17,9 +18,10 @@ module _ {K : Type 0} {P : K → Type 0} {Q : ℕ → Type 0} where
   unfolding emptyTurn
   all-emptyTurn i h = end h none
 
-  pub all-thenLeave : {l : List (Outcome K)} (i : K) → AllOut P Q l → P i → AllOut P Q (thenLeave l i)
+  pub all-thenLeave : (how : Manner) {l : List (Outcome K)} (i : K) → AllOut P Q l → P i → AllOut P Q (thenLeave how l i)
   unfolding thenLeave
-  all-thenLeave i h c = all-append h (end c none)
+  all-thenLeave eager i h c = all-append h (end c none)
+  all-thenLeave lazy i h c = end c h
 
 -- Moved to other places, by h, they are what they are at those.
 module _ {K L : Type 0} (h : K → L) (g : ℕ → List (Outcome L)) where
@@ -27,9 +29,10 @@ module _ {K L : Type 0} (h : K → L) (g : ℕ → List (Outcome L)) where
   unfolding emptyTurn
   replace-emptyTurn i = refl
 
-  pub replace-thenLeave : (l : List (Outcome K)) (i : K) → replace (λ k. endsAt (h k) ∷ []) g (thenLeave l i) ≡ thenLeave (replace (λ k. endsAt (h k) ∷ []) g l) (h i)
+  pub replace-thenLeave : (how : Manner) (l : List (Outcome K)) (i : K) → replace (λ k. endsAt (h k) ∷ []) g (thenLeave how l i) ≡ thenLeave how (replace (λ k. endsAt (h k) ∷ []) g l) (h i)
   unfolding thenLeave
-  replace-thenLeave l i = replace-append (λ k. endsAt (h k) ∷ []) g l (endsAt i ∷ [])
+  replace-thenLeave eager l i = replace-append (λ k. endsAt (h k) ∷ []) g l (endsAt i ∷ [])
+  replace-thenLeave lazy l i = refl
 
 -- A list whose ends are taken for empty turns is itself.
 pub andThen-emptyTurn : {K : Type 0} (l : List (Outcome K)) → andThen l emptyTurn ≡ l
@@ -39,17 +42,20 @@ andThen-emptyTurn (endsAt k ∷ l) = ap (λ m. endsAt k ∷ m) (andThen-emptyTur
 andThen-emptyTurn (wants p ∷ l) = ap (λ m. wants p ∷ m) (andThen-emptyTurn l)
 
 -- The ends of r* are those of its turns, and i.
-pub some-leave : (i : ℕ) (l : List (Outcome ℕ)) → T (someIs i (thenLeave l i))
+pub some-leave : (how : Manner) (i : ℕ) (l : List (Outcome ℕ)) → T (someIs i (thenLeave how l i))
 unfolding thenLeave
-some-leave i l = some-right i l (endsAt i ∷ []) (or-left (eqb i i) false (eqb-refl i))
+some-leave lazy i l = or-left (eqb i i) (someIs i l) (eqb-refl i)
+some-leave eager i l = some-right i l (endsAt i ∷ []) (or-left (eqb i i) false (eqb-refl i))
 
-pub some-turns : (i k : ℕ) (l : List (Outcome ℕ)) → T (someIs k l) → T (someIs k (thenLeave l i))
+pub some-turns : (how : Manner) (i k : ℕ) (l : List (Outcome ℕ)) → T (someIs k l) → T (someIs k (thenLeave how l i))
 unfolding thenLeave
-some-turns i k l t = some-left k l (endsAt i ∷ []) t
+some-turns lazy i k l t = or-right (eqb i k) (someIs k l) t
+some-turns eager i k l t = some-left k l (endsAt i ∷ []) t
 
-pub some-star : (i k : ℕ) (l : List (Outcome ℕ)) → T (someIs k (thenLeave l i)) → T (someIs k l) ⊎ (i ≡ k)
+pub some-star : (how : Manner) (i k : ℕ) (l : List (Outcome ℕ)) → T (someIs k (thenLeave how l i)) → T (someIs k l) ⊎ (i ≡ k)
 unfolding thenLeave
-some-star i k l t = either inl (λ m. inr (either (λ e. eqb→eq i k e) (λ n. absurd n) (or-cases (eqb i k) false m))) (some-cases k l (endsAt i ∷ []) t)
+some-star lazy i k l t = either (λ e. inr (eqb→eq i k e)) inl (or-cases (eqb i k) (someIs k l) t)
+some-star eager i k l t = either inl (λ m. inr (either (λ e. eqb→eq i k e) (λ n. absurd n) (or-cases (eqb i k) false m))) (some-cases k l (endsAt i ∷ []) t)
 
 -- An empty turn ends nowhere but at i.
 pub some-emptyTurn : (i k : ℕ) → T (someIs k (emptyTurn i)) → i ≡ k
@@ -86,17 +92,20 @@ some-afterTurn i k j l = go (ltb i k)
     go false m = inr (some-emptyTurn i j m)
 
 -- The outcomes of r* are those of its turns, and "ends at i"; those of a turn that ends at k are those of r* from k, or "ends at i".
-pub in-thenLeave : {o : Outcome ℕ} (i : ℕ) (l : List (Outcome ℕ)) → Mem o (thenLeave l i) → Mem o l ⊎ (o ≡ endsAt i)
+pub in-thenLeave : {o : Outcome ℕ} (how : Manner) (i : ℕ) (l : List (Outcome ℕ)) → Mem o (thenLeave how l i) → Mem o l ⊎ (o ≡ endsAt i)
 unfolding thenLeave
-in-thenLeave i l m = either inl (λ t. inr (List·Memᴰ·eq-of-singleton t)) (List·Memᴰ·append-cases l m)
+in-thenLeave lazy i l m = either inr inl (List·Memᴰ·cases-cons m)
+in-thenLeave eager i l m = either inl (λ t. inr (List·Memᴰ·eq-of-singleton t)) (List·Memᴰ·append-cases l m)
 
-pub of-turns : {o : Outcome ℕ} {l : List (Outcome ℕ)} (i : ℕ) → Mem o l → Mem o (thenLeave l i)
+pub of-turns : {o : Outcome ℕ} {l : List (Outcome ℕ)} (how : Manner) (i : ℕ) → Mem o l → Mem o (thenLeave how l i)
 unfolding thenLeave
-of-turns i m = Memᴰ·append-left (endsAt i ∷ []) m
+of-turns lazy i m = tail m
+of-turns eager i m = Memᴰ·append-left (endsAt i ∷ []) m
 
-pub of-leave : {o : Outcome ℕ} (i : ℕ) (l : List (Outcome ℕ)) → o ≡ endsAt i → Mem o (thenLeave l i)
+pub of-leave : {o : Outcome ℕ} (how : Manner) (i : ℕ) (l : List (Outcome ℕ)) → o ≡ endsAt i → Mem o (thenLeave how l i)
 unfolding thenLeave
-of-leave i l e = Memᴰ·append-right l (head e)
+of-leave lazy i l e = head e
+of-leave eager i l e = Memᴰ·append-right l (head e)
 
 pub in-afterTurn : {o : Outcome ℕ} {l : List (Outcome ℕ)} (i k : ℕ) → Mem o (afterTurn i k l) → (T (ltb i k) × Mem o l) ⊎ (o ≡ endsAt i)
 unfolding emptyTurn

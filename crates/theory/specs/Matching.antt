@@ -5,7 +5,7 @@ use mathlib.Core.Bool.{Bool}
 use mathlib.Core.List.{List}
 use lib.ListN.{length, getD}
 use lib.Dec.{T}
-use Rattle.theory.specs.Pattern.{Re, empty, leaf, seq, alt, star, field}
+use Rattle.theory.specs.Pattern.{Manner, Re, empty, leaf, seq, alt, star, field}
 
 pub data Matches (w : List ℕ) : Re → ℕ → ℕ → Type 0 where
   m-empty : {i : ℕ} → Matches w empty i i
@@ -13,6 +13,6 @@ pub data Matches (w : List ℕ) : Re → ℕ → ℕ → Type 0 where
   m-seq : {x y : Re} {i k j : ℕ} → Matches w x i k → Matches w y k j → Matches w (seq x y) i j
   m-left : {x y : Re} {i j : ℕ} → Matches w x i j → Matches w (alt x y) i j
   m-right : {x y : Re} {i j : ℕ} → Matches w y i j → Matches w (alt x y) i j
-  m-done : {x : Re} {i : ℕ} → Matches w (star x) i i
-  m-again : {x : Re} {i k j : ℕ} → i < k → Matches w x i k → Matches w (star x) k j → Matches w (star x) i j
+  m-done : {how : Manner} {x : Re} {i : ℕ} → Matches w (star how x) i i
+  m-again : {how : Manner} {x : Re} {i k j : ℕ} → i < k → Matches w x i k → Matches w (star how x) k j → Matches w (star how x) i j
   m-field : {f : ℕ} {x : Re} {i j : ℕ} → Matches w x i j → Matches w (field f x) i j

@@ -5,7 +5,7 @@ use mathlib.Core.Bool.{Bool, true, false, cond}
 use mathlib.Core.List.{List, [], _∷_, _++_}
 use lib.ListN.{length, drop}
 use lib.Dec.{ltb}
-use Rattle.theory.specs.Pattern.{Re, empty, leaf, seq, alt, star, field}
+use Rattle.theory.specs.Pattern.{Manner, eager, lazy, Re, empty, leaf, seq, alt, star, field}
 
 -- An "outcome", "ends at k" or "wants leaf p". K is ℕ for a place of a line; `Code.Follow` has lists that depend on no line, where there is one place.
 pub data Outcome (K : Type 0) : Type 0 where
@@ -42,14 +42,15 @@ emptyTurn i = endsAt i ∷ []
 abbrev pub afterTurn : ℕ → ℕ → List (Outcome ℕ) → List (Outcome ℕ)
 afterTurn i k goesOn = cond (ltb i k) goesOn (emptyTurn i)
 
--- r*, its turns, "then 'ends at i'".
-unfoldable pub thenLeave : {K : Type 0} → List (Outcome K) → K → List (Outcome K)
-thenLeave turns i = turns ++ (endsAt i ∷ [])
+-- r*, its turns, "then 'ends at i'"; r*? has "the leaving end first".
+unfoldable pub thenLeave : {K : Type 0} → Manner → List (Outcome K) → K → List (Outcome K)
+thenLeave eager turns i = turns ++ (endsAt i ∷ [])
+thenLeave lazy turns i = endsAt i ∷ turns
 
 -- r* by r's lists f. The number is that of the turns still allowed: each ends above the one before, so the line's length and one more are enough (`outcomes-star`).
-unfoldable pub starOutcomes : (ℕ → List (Outcome ℕ)) → ℕ → ℕ → List (Outcome ℕ)
-starOutcomes f zero i = []
-starOutcomes f (suc n) i = thenLeave (andThen (f i) (λ k. afterTurn i k (starOutcomes f n k))) i
+unfoldable pub starOutcomes : Manner → (ℕ → List (Outcome ℕ)) → ℕ → ℕ → List (Outcome ℕ)
+starOutcomes how f zero i = []
+starOutcomes how f (suc n) i = thenLeave how (andThen (f i) (λ k. afterTurn i k (starOutcomes how f n k))) i
 
 -- "For a part and a place i in the line it has a list of outcomes."
 abbrev pub Lists : Type 0
@@ -61,5 +62,5 @@ outcomes empty w i = endsAt i ∷ []
 outcomes (leaf p s) w i = leafOutcomes p s i (drop i w)
 outcomes (seq x y) w i = andThen (outcomes x w i) (outcomes y w)
 outcomes (alt x y) w i = outcomes x w i ++ outcomes y w i
-outcomes (star x) w i = starOutcomes (outcomes x w) (suc (length w)) i
+outcomes (star how x) w i = starOutcomes how (outcomes x w) (suc (length w)) i
 outcomes (field f x) w i = outcomes x w i

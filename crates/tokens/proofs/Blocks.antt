@@ -7,8 +7,9 @@ use native.Mathlib.Omega.{arith}
 use native.Mathlib.Numerals.{add-one}
 use lib.ListN.{replicate, replicate-append-replicate}
 use Rattle.grammar.specs.Code.Tokens.{blocks}
-use Rattle.grammar.specs.Code.Codes.{exactlyCodes, atLeastCodes, closeCodes, betweenCodes}
-use Rattle.tokens.specs.Copied.{again}
+use Rattle.theory.specs.Pattern.{Manner}
+use Rattle.grammar.specs.Code.Codes.{exactlyCodes, starOf, atLeastCodes, leadCodes, shutCodes, closeCodes, betweenCodes}
+use Rattle.tokens.specs.Copied.{again, nested}
 
 blocks-append : (n : ℕ) (k y z : List ℕ) → blocks n k y ++ z ≡ blocks n k (y ++ z)
 blocks-append zero k y z = refl
@@ -31,12 +32,15 @@ again-more n k = rw add-one (blocks-more (suc n) k)
 pub replicate-more : (n c : ℕ) → replicate n c ++ (c ∷ []) ≡ replicate (n + 1) c
 replicate-more n c = replicate-append-replicate n 1 c
 
-pub close-more : (n : ℕ) → ((closeCodes n ++ (1 ∷ [])) ++ (0 ∷ [])) ++ (2 ∷ []) ≡ closeCodes (n + 1)
-close-more n = rw add-one (go n)
+further : (x a b c : List ℕ) → ((x ++ a) ++ b) ++ c ≡ x ++ ((a ++ b) ++ c)
+further x a b c = simp append-assoc
+
+pub close-more : (how : Manner) (n : ℕ) → (closeCodes how n ++ (1 ∷ [])) ++ shutCodes how ≡ closeCodes how (n + 1)
+close-more how n = rw add-one (go n)
   where
-    go : (n : ℕ) → ((closeCodes n ++ (1 ∷ [])) ++ (0 ∷ [])) ++ (2 ∷ []) ≡ closeCodes (suc n)
-    go zero = refl
-    go (suc n) = ap (λ u. 1 ∷ 0 ∷ 2 ∷ u) (go n)
+    go : (n : ℕ) → (closeCodes how n ++ (1 ∷ [])) ++ shutCodes how ≡ closeCodes how (suc n)
+    go zero = ap (λ u. 1 ∷ u) (sym (append-nil (shutCodes how)))
+    go (suc n) = ap (λ u. 1 ∷ u) (further (shutCodes how) (closeCodes how n) (1 ∷ []) (shutCodes how) ∙ ap (λ u. shutCodes how ++ u) (go n))
 
 -- What each repeat writes after the copies makes its codes.
 pub no-codes : (times : ℕ) → times ≡ 0 → (k : List ℕ) → 0 ∷ [] ≡ exactlyCodes times k
@@ -48,26 +52,36 @@ exactly-codes (suc m) h k =
     let e : suc m - 1 ≡ m = omega arith in
     rw e (blocks-append (suc m) k [] (replicate m 1))
 
-pub at-least-codes : (times : ℕ) (k : List ℕ) → (again times k ++ (3 ∷ [])) ++ replicate times 1 ≡ atLeastCodes times k
-at-least-codes m k = append-assoc (again m k) (3 ∷ []) (replicate m 1) ∙ blocks-append (suc m) k [] (3 ∷ replicate m 1)
+pub at-least-codes : (how : Manner) (times : ℕ) (k : List ℕ) → (again times k ++ (starOf how ∷ [])) ++ replicate times 1 ≡ atLeastCodes how times k
+at-least-codes how m k = append-assoc (again m k) (starOf how ∷ []) (replicate m 1) ∙ blocks-append (suc m) k [] (starOf how ∷ replicate m 1)
 
-pub no-optional-codes : (least most : ℕ) → most ≤ least → (k : List ℕ) → exactlyCodes least k ≡ betweenCodes least (most - least) k
-no-optional-codes least most h k = let e : most - least ≡ 0 = omega arith in rw e refl
+pub no-optional-codes : (how : Manner) (least most : ℕ) → most ≤ least → (k : List ℕ) → exactlyCodes least k ≡ betweenCodes how least (most - least) k
+no-optional-codes how least most h k = let e : most - least ≡ 0 = omega arith in rw e refl
 
-regroup : (x a b c d : List ℕ) → (((x ++ a) ++ b) ++ c) ++ d ≡ x ++ (a ++ (b ++ (c ++ d)))
-regroup x a b c d = simp append-assoc
+-- The copies that must be, and the optional ones.
+pub eager-copies : (least most : ℕ) → least < most → (k : List ℕ) → again (most - 1) k ≡ nested [] least (most - least - 1) k
+eager-copies least most h k =
+    let e : suc (most - 1) ≡ least + suc (most - least - 1) = omega arith in
+    ap (λ n. blocks n k []) e ∙ sym (blocks-add least (suc (most - least - 1)) k [])
 
-nested : (m i : ℕ) (k : List ℕ) → (((again (m + i) k ++ (0 ∷ [])) ++ (2 ∷ [])) ++ closeCodes i) ++ replicate m 1 ≡ betweenCodes m (suc i) k
-nested m i k =
-    let w : List ℕ = (0 ∷ 2 ∷ closeCodes i) ++ replicate m 1 in
-    let e : suc (m + i) ≡ m + suc i = omega arith in
-    regroup (again (m + i) k) (0 ∷ []) (2 ∷ []) (closeCodes i) (replicate m 1)
-    ∙ blocks-append (suc (m + i)) k [] w
-    ∙ ap (λ j. blocks j k w) e
-    ∙ sym (blocks-add m (suc i) k w)
+pub none-first : (around least : ℕ) → least ≡ 0 → (c k : List ℕ) → again around (c ++ k) ≡ nested c least around k
+none-first around least e c k = rw e refl
 
-pub between-codes : (least most : ℕ) → least < most → (k : List ℕ) → (((again (most - 1) k ++ (0 ∷ [])) ++ (2 ∷ [])) ++ closeCodes (most - least - 1)) ++ replicate least 1 ≡ betweenCodes least (most - least) k
-between-codes least most h k = go (most - least - 1) (omega arith) (omega arith)
+pub must-first : (least around : ℕ) → 0 < least → (l c k : List ℕ) → (l ++ again (least - 1) k) ++ again around (c ++ k) ≡ l ++ nested c least around k
+must-first zero around h l c k = absurd (omega arith)
+must-first (suc m) around h l c k =
+    let e : suc m - 1 ≡ m = omega arith in
+    rw e (append-assoc l (again m k) (again around (c ++ k)) ∙ ap (λ u. l ++ u) (blocks-append (suc m) k [] (again around (c ++ k))))
+
+-- .. and what closes them.
+pub between-codes : (how : Manner) (least most : ℕ) → least < most → (k : List ℕ)
+    → ((nested (leadCodes how) least (most - least - 1) k ++ shutCodes how) ++ closeCodes how (most - least - 1)) ++ replicate least 1 ≡ betweenCodes how least (most - least) k
+between-codes how least most h k = go (most - least - 1) (omega arith)
   where
-    go : (i : ℕ) → most - 1 ≡ least + i → most - least ≡ suc i → (((again (most - 1) k ++ (0 ∷ [])) ++ (2 ∷ [])) ++ closeCodes i) ++ replicate least 1 ≡ betweenCodes least (most - least) k
-    go i c o = rw (c, o) (nested least i k)
+    go : (i : ℕ) → most - least ≡ suc i → ((nested (leadCodes how) least i k ++ shutCodes how) ++ closeCodes how i) ++ replicate least 1 ≡ betweenCodes how least (most - least) k
+    go i o =
+        let w : List ℕ = (shutCodes how ++ closeCodes how i) ++ replicate least 1 in
+        rw o
+        (further (nested (leadCodes how) least i k) (shutCodes how) (closeCodes how i) (replicate least 1)
+        ∙ blocks-append least k (again i (leadCodes how ++ k)) w
+        ∙ ap (λ u. blocks least k u) (blocks-append (suc i) (leadCodes how ++ k) [] w))

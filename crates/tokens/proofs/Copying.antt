@@ -1,6 +1,6 @@
 -- Copies of a part of what an array holds.
 -- Assumes nothing.
-use mathlib.Core.Path.{_≡_, refl, sym, ap, _∙_}
+use mathlib.Core.Path.{_≡_, refl, sym, ap, _∙_, subst}
 use Prim.Native.Nat.{ℕ, _+_, _-_, _≤_, _<_, min}
 use mathlib.Core.Bool.{Bool, true, false, not}
 use mathlib.Core.List.{List, [], _∷_, _++_, append-assoc, append-nil}
@@ -11,8 +11,8 @@ use lib.ListN.{length, take, getD, length-append, List·getD-append}
 use lib.Seq.{take-all, take-suc, getD-take, getD-append-add}
 use Rattle.grammar.specs.Code.Tokens.{blocks}
 use Rattle.tokens.specs.Held.{HoldsCodes, Added, Rewritten}
-use Rattle.tokens.specs.Copied.{Copied, again}
-use Rattle.tokens.proofs.Blocks.{again-more}
+use Rattle.tokens.specs.Copied.{Copied, again, nested}
+use Rattle.tokens.proofs.Blocks.{again-more, must-first}
 use Rattle.tokens.proofs.Laws.{lost, full}
 
 pub copy-full : (a : List ℕ) (n from size : ℕ) → 2815 ≤ n → Copied a n from size (λ k. k) a n
@@ -77,3 +77,28 @@ copies-more from i h w d =
           rw (append-assoc l (again i k) k, again-more i k) at
           (d .holds l k (blocks i k []) (w .holds l k g e) e (omega (arith, g .used, length-append l k)));
     }
+
+-- A part rewritten, and then copies of it.
+pub copies-of : {a b c : List ℕ} {n m p from : ℕ} {f : List ℕ → List ℕ} (i : ℕ) → Rewritten a n from f b m → Rewritten b m from (again i) c p → Rewritten a n from (λ k. again i (f k)) c p
+copies-of {f = f} i w d = record { room = λ r. d .room (w .room r); more = λ r. d .more (w .more r); holds = λ l k g e. d .holds l (f k) (w .holds l k g e) e }
+
+-- THE COPIES OF A LAZY REPEAT, of which some must be: those, then one with the code c in front, and copies of that.
+pub led-copies : {a b d e f : List ℕ} {n m p q r from : ℕ} {c : ℕ} (least around : ℕ) → 0 < least → from ≤ n → Rewritten a n from (again (least - 1)) b m → Added b m (c ∷ []) d p
+    → Copied d p from (n - from) (λ k. k) e q → Rewritten e q m (again around) f r → Rewritten a n from (nested (c ∷ []) least around) f r
+led-copies {e = e} {n = n} {q = q} {from = from} {c = c} least around h i w x y z =
+    record {
+      room = λ o. z .room (y .room (x .room (w .room o)));
+      more = λ o. omega (arith, w .more o, x .more, y .more, z .more (omega (arith, x .more, y .more)));
+      holds = λ l k g o.
+          let first = w .holds l k g o in
+          let rest : List ℕ = blocks (least - 1) k [] ++ (c ∷ []) in
+          let led = subst (HoldsCodes _ _) (led-block l k (blocks (least - 1) k [])) (x .holds (l ++ again (least - 1) k) first) in
+          let one : HoldsCodes e q ((l ++ again (least - 1) k) ++ (c ∷ k)) = subst (HoldsCodes e q) (led-end l k (blocks (least - 1) k [])) (y .holds l k rest led o (omega (arith, g .used, length-append l k))) in
+          subst (HoldsCodes _ _) (must-first least around h l (c ∷ []) k) (z .holds (l ++ again (least - 1) k) (c ∷ k) one (first .used));
+    }
+  where
+    led-block : (l k u : List ℕ) → (l ++ (k ++ u)) ++ (c ∷ []) ≡ l ++ (k ++ (u ++ (c ∷ [])))
+    led-block l k u = simp append-assoc
+
+    led-end : (l k u : List ℕ) → (l ++ (k ++ (u ++ (c ∷ [])))) ++ k ≡ (l ++ (k ++ u)) ++ (c ∷ k)
+    led-end l k u = simp append-assoc

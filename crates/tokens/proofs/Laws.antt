@@ -68,6 +68,10 @@ outside a n from f h =
       holds = λ l k g e. absurd (omega (arith, g .used, length-append l k));
     }
 
+-- No codes use more places than there are.
+pub beyond : (a : List ℕ) (n from : ℕ) (f : List ℕ → List ℕ) → 2815 < n → Rewritten a n from f a n
+beyond a n from f h = record { room = λ r. absurd (omega arith); more = λ r. r; holds = λ l k g e. absurd (omega (arith, g .used)) }
+
 pub kept : (a : List ℕ) (n from : ℕ) → Rewritten a n from (λ k. k) a n
 kept a n from = record { room = λ r. r; more = λ r. r; holds = λ l k g e. g }
 

@@ -16,3 +16,7 @@ pub record Copied (a : List ℕ) (n from size : ℕ) (f : List ℕ → List ℕ)
 -- A part and n copies of it.
 abbrev pub again : ℕ → List ℕ → List ℕ
 again n k = blocks (suc n) k []
+
+-- m copies of a part, then i and one that have the codes c in front.
+abbrev pub nested : List ℕ → ℕ → ℕ → List ℕ → List ℕ
+nested c m i k = blocks m k (again i (c ++ k))

@@ -4,7 +4,7 @@ use mathlib.Core.Path.{_≡_, refl}
 use Prim.Native.Nat.{ℕ}
 use mathlib.Core.List.{List, [], _∷_}
 use lib.Dec.{eqb}
-use Rattle.theory.specs.Pattern.{Re, empty, leaf, seq, alt, star, field, opt, has}
+use Rattle.theory.specs.Pattern.{eager, lazy, Re, empty, leaf, seq, alt, star, field, opt, has}
 use Rattle.theory.specs.Outcomes.{emptyTurn, outcomes}
 use Rattle.theory.specs.Outcomes as Plain
 use Rattle.theory.specs.Spans.{greedy}
@@ -23,7 +23,7 @@ Is r w i f v = (fieldAt r w f ≡ v) × (fieldBy f (passFrom r w i) ≡ v)
 
 -- `(a|(b))*` on ba: field 1 in its last turn, field 2 as the turn before left it.
 abbrev or-b : Re
-or-b = star (field 1 (alt (byte 0 97) (field 2 (byte 1 98))))
+or-b = star eager (field 1 (alt (byte 0 97) (field 2 (byte 1 98))))
 
 pub last-turn : Is or-b (98 ∷ 97 ∷ []) 0 1 (between 1 2) × Is or-b (98 ∷ 97 ∷ []) 0 2 (between 0 1)
 unfolding fieldAt greedy outcomes Plain.starOutcomes Plain.thenLeave emptyTurn carried starOutcomes thenLeave passFrom pass firstRow row start follow has
@@ -31,14 +31,14 @@ last-turn = ((refl, refl), (refl, refl))
 
 -- "An empty turn counts as a turn": `(a*)*` on aa has one at the line's end, and on the empty line one at 0.
 abbrev stars : Re
-stars = star (field 1 (star (byte 0 97)))
+stars = star eager (field 1 (star eager (byte 0 97)))
 
 pub empty-turn : Is stars (97 ∷ 97 ∷ []) 0 1 (between 2 2) × Is stars [] 0 1 (between 0 0)
 unfolding fieldAt greedy outcomes Plain.starOutcomes Plain.thenLeave emptyTurn carried starOutcomes thenLeave passFrom pass firstRow row start follow has
 empty-turn = ((refl, refl), (refl, refl))
 
 -- `(a)*` on the empty line: no turn.
-pub no-turn : Is (star (field 1 (byte 0 97))) [] 0 1 absent
+pub no-turn : Is (star eager (field 1 (byte 0 97))) [] 0 1 absent
 unfolding fieldAt greedy outcomes Plain.starOutcomes Plain.thenLeave emptyTurn carried starOutcomes thenLeave passFrom pass firstRow row start follow has
 no-turn = (refl, refl)
 
@@ -60,8 +60,17 @@ pub under-zero : Is none-of-a (98 ∷ []) 0 1 absent × Is none-of-a (98 ∷ [])
 unfolding fieldAt greedy outcomes Plain.starOutcomes Plain.thenLeave emptyTurn carried starOutcomes thenLeave passFrom pass firstRow row start follow has
 under-zero = ((refl, refl), (refl, refl))
 
+-- `(a)*?b` on aab: as few turns as the rest allows, and the last of them; `(a)??` on a: the way leaves without one.
+pub lazy-turn : Is (seq (star lazy (field 1 (byte 0 97))) (byte 1 98)) (97 ∷ 97 ∷ 98 ∷ []) 0 1 (between 1 2)
+unfolding fieldAt greedy outcomes Plain.starOutcomes Plain.thenLeave emptyTurn carried starOutcomes thenLeave passFrom pass firstRow row start follow has
+lazy-turn = (refl, refl)
+
+pub lazy-option : Is (opt lazy (field 1 (byte 0 97))) (97 ∷ []) 0 1 absent
+unfolding fieldAt greedy outcomes Plain.starOutcomes Plain.thenLeave emptyTurn carried starOutcomes thenLeave passFrom pass firstRow row start follow has
+lazy-option = (refl, refl)
+
 -- `(a?)b` on b: an empty field has a place.
-pub empty-field : Is (seq (field 1 (opt (byte 0 97))) (byte 1 98)) (98 ∷ []) 0 1 (between 0 0)
+pub empty-field : Is (seq (field 1 (opt eager (byte 0 97))) (byte 1 98)) (98 ∷ []) 0 1 (between 0 0)
 unfolding fieldAt greedy outcomes Plain.starOutcomes Plain.thenLeave emptyTurn carried starOutcomes thenLeave passFrom pass firstRow row start follow has
 empty-field = (refl, refl)
 

@@ -9,7 +9,7 @@ use lib.ListN.{length, drop, length-drop, length-append}
 use lib.Seq.{drop-append-le, drop-length}
 use lib.Dec.{T, ltb, ltb→lt}
 use borrow.Author.Tests.{lt-ltb, le-ltb, eq-eqb}
-use Rattle.theory.specs.Pattern.{Re, empty, leaf, seq, alt, star, field, has, count, Numbered}
+use Rattle.theory.specs.Pattern.{Manner, eager, lazy, Re, empty, leaf, seq, alt, star, field, has, count, Numbered}
 use Rattle.theory.specs.Outcomes.{Outcome, emptyTurn, leafOutcomes, when}
 use Rattle.theory.specs.Code.Follow as Plain-rows
 use Rattle.theory.proofs.Tests.{or-false}
@@ -41,24 +41,24 @@ module _ {C : Type 0} (mark : Mark → C → C) where
   carried-all r w i v = rw (forgets mark r w i v) (outcomes-all r w i)
 
   -- The number in `starOutcomes` does not matter once it is large enough.
-  star-enough : {Q : ℕ → Type 0} (f : ℕ → C → List (Carried C)) (n : ℕ) → ((i : ℕ) (v : C) → AllOut (InLine n i) Q (plain (f i v)))
-      → (d e i : ℕ) (v : C) → n - i < d → n - i < e → starOutcomes f d i v ≡ starOutcomes f e i v
+  star-enough : {Q : ℕ → Type 0} (how : Manner) (f : ℕ → C → List (Carried C)) (n : ℕ) → ((i : ℕ) (v : C) → AllOut (InLine n i) Q (plain (f i v)))
+      → (d e i : ℕ) (v : C) → n - i < d → n - i < e → starOutcomes how f d i v ≡ starOutcomes how f e i v
   unfolding starOutcomes
-  star-enough f n h zero e i v p q = absurd (omega arith)
-  star-enough f n h (suc d) zero i v p q = absurd (omega arith)
-  star-enough f n h (suc d) (suc e) i v p q =
-      ap (λ l. thenLeave l i v)
+  star-enough how f n h zero e i v p q = absurd (omega arith)
+  star-enough how f n h (suc d) zero i v p q = absurd (omega arith)
+  star-enough how f n h (suc d) (suc e) i v p q =
+      ap (λ l. thenLeave how l i v)
       (replace-congr (f i v) (h i v)
-      (λ k u b. afterTurn-congr i k u λ t. star-enough f n h d e k u (omega (arith, ltb→lt i k t)) (omega (arith, ltb→lt i k t)))
+      (λ k u b. afterTurn-congr i k u λ t. star-enough how f n h d e k u (omega (arith, ltb→lt i k t)) (omega (arith, ltb→lt i k t)))
       (λ p u b. refl))
 
-  carried-star : (x : Re) (w : List ℕ) (i : ℕ) (v : C)
-      → carried mark (star x) w i v ≡ thenLeave (andThen (carried mark x w i v) (λ k u. afterTurn i k u (carried mark (star x) w k u))) i v
+  carried-star : (how : Manner) (x : Re) (w : List ℕ) (i : ℕ) (v : C)
+      → carried mark (star how x) w i v ≡ thenLeave how (andThen (carried mark x w i v) (λ k u. afterTurn i k u (carried mark (star how x) w k u))) i v
   unfolding carried starOutcomes
-  carried-star x w i v =
-      ap (λ l. thenLeave l i v)
+  carried-star how x w i v =
+      ap (λ l. thenLeave how l i v)
       (replace-congr (carried mark x w i v) (carried-all x w i v)
-      (λ k u b. afterTurn-congr i k u λ t. star-enough (carried mark x w) (length w) (carried-all x w) (length w) (suc (length w)) k u (omega (arith, ltb→lt i k t)) (omega arith))
+      (λ k u b. afterTurn-congr i k u λ t. star-enough how (carried mark x w) (length w) (carried-all x w) (length w) (suc (length w)) k u (omega (arith, ltb→lt i k t)) (omega arith))
       (λ p u b. refl))
 
   -- At the line's end the list is the part's `start`.
@@ -74,10 +74,10 @@ module _ {C : Type 0} (mark : Mark → C → C) where
   carried-end (leaf p s) w v = rw (drop-length w)
   carried-end (seq x y) w v = rw (carried-end x w v) (replace-congr (start mark x (length w) v) (start-all x (length w) v) (λ k u e. rw e (carried-end y w u)) (λ p u e. refl))
   carried-end (alt x y) w v = rw (carried-end x w v, carried-end y w v)
-  carried-end (star x) w v =
-      carried-star x w (length w) v
+  carried-end (star how x) w v =
+      carried-star how x w (length w) v
       ∙ rw (carried-end x w v)
-      (ap (λ l. thenLeave l (length w) v) (replace-congr (start mark x (length w) v) (start-all x (length w) v) (λ k u e. rw (e, le-ltb (length w) (length w) (omega arith))) (λ p u e. refl)))
+      (ap (λ l. thenLeave how l (length w) v) (replace-congr (start mark x (length w) v) (start-all x (length w) v) (λ k u e. rw (e, le-ltb (length w) (length w) (omega arith))) (λ p u e. refl)))
   carried-end (field f x) w v = rw (carried-end x w (mark (opened f (length w)) v))
 
   -- A part without the leaf p has no row for it, and a part's row is made of that of the one below that has the leaf.
@@ -105,9 +105,9 @@ module _ {C : Type 0} (mark : Mark → C → C) where
     unfolding has follow
     after-alt-right h = rw (has-none x p b h, follow-none x p n v h)
 
-  after-star : (b p n : ℕ) (v : C) (x : Re) → after mark (star x) b p n v ≡ andThen (after mark x b p n v) (start mark (star x))
+  after-star : (b p n : ℕ) (v : C) (how : Manner) (x : Re) → after mark (star how x) b p n v ≡ andThen (after mark x b p n v) (start mark (star how x))
   unfolding has follow
-  after-star b p n v x = sym (when-andThen (has x p b) (follow mark x p n v) (start mark (star x)))
+  after-star b p n v how x = sym (when-andThen (has x p b) (follow mark x p n v) (start mark (star how x)))
 
   after-field : (b p n : ℕ) (v : C) (f : ℕ) (x : Re) → after mark (field f x) b p n v ≡ andThen (after mark x b p n v) (close mark f)
   unfolding has follow
@@ -130,9 +130,10 @@ module _ {C : Type 0} (mark : Mark → C → C) where
       go true = refl
       go false = replace-ends (λ p v. after mark r b p (suc n) v) v (all-emptyTurn {P = λ k. Unit {0}} {Q = λ p. ⊥} i tt)
 
-  grow-thenLeave : (r : Re) (b n i : ℕ) (v : C) (l : List (Carried C)) → grow r b n (thenLeave l i v) ≡ thenLeave (grow r b n l) i v
+  grow-thenLeave : (how : Manner) (r : Re) (b n i : ℕ) (v : C) (l : List (Carried C)) → grow r b n (thenLeave how l i v) ≡ thenLeave how (grow r b n l) i v
   unfolding grow thenLeave
-  grow-thenLeave r b n i v l = replace-append end (λ p v. after mark r b p (suc n) v) l (endsAt i v ∷ [])
+  grow-thenLeave lazy r b n i v l = refl
+  grow-thenLeave eager r b n i v l = replace-append end (λ p v. after mark r b p (suc n) v) l (endsAt i v ∷ [])
 
   -- A part r that takes x first and goes on by G, and by F once the line has grown.
   grow-andThen : (b n : ℕ) (x r : Re) {P Q : ℕ → Type 0} (F G : ℕ → C → List (Carried C)) (l : List (Carried C)) → AllOut P Q (plain l)
@@ -164,19 +165,19 @@ module _ {C : Type 0} (mark : Mark → C → C) where
     past : (y : Re) (v : C) → carried mark y (w ++ (b ∷ [])) (suc (length w)) v ≡ start mark y (suc (length w)) v
     past y v = let e : length (w ++ (b ∷ [])) ≡ suc (length w) = omega (arith, length-append w (b ∷ [])) in rw e at (carried-end y (w ++ (b ∷ [])) v)
 
-    module _ (x : Re) (below : (i : ℕ) (v : C) → i ≤ length w → carried mark x (w ++ (b ∷ [])) i v ≡ grow x b (length w) (carried mark x w i v)) where
-      extend-star : (d i : ℕ) (v : C) → length w - i < d → i ≤ length w → carried mark (star x) (w ++ (b ∷ [])) i v ≡ grow (star x) b (length w) (carried mark (star x) w i v)
+    module _ (how : Manner) (x : Re) (below : (i : ℕ) (v : C) → i ≤ length w → carried mark x (w ++ (b ∷ [])) i v ≡ grow x b (length w) (carried mark x w i v)) where
+      extend-star : (d i : ℕ) (v : C) → length w - i < d → i ≤ length w → carried mark (star how x) (w ++ (b ∷ [])) i v ≡ grow (star how x) b (length w) (carried mark (star how x) w i v)
       extend-star zero i v g h = absurd (omega arith)
       extend-star (suc d) i v g h =
-          rw (carried-star x (w ++ (b ∷ [])) i v, carried-star x w i v, below i v h, grow-thenLeave)
-          (ap (λ l. thenLeave l i v)
-          (grow-andThen b (length w) x (star x) (λ k u. afterTurn i k u (carried mark (star x) (w ++ (b ∷ [])) k u)) (λ k u. afterTurn i k u (carried mark (star x) w k u))
+          rw (carried-star how x (w ++ (b ∷ [])) i v, carried-star how x w i v, below i v h, grow-thenLeave)
+          (ap (λ l. thenLeave how l i v)
+          (grow-andThen b (length w) x (star how x) (λ k u. afterTurn i k u (carried mark (star how x) (w ++ (b ∷ [])) k u)) (λ k u. afterTurn i k u (carried mark (star how x) w k u))
           (carried mark x w i v) (carried-all x w i v)
-          (λ k u c. afterTurn-congr i k u (λ t. extend-star d k u (omega (arith, ltb→lt i k t)) (omega arith)) ∙ sym (grow-afterTurn (star x) b (length w) i k u _))
+          (λ k u c. afterTurn-congr i k u (λ t. extend-star d k u (omega (arith, ltb→lt i k t)) (omega arith)) ∙ sym (grow-afterTurn (star how x) b (length w) i k u _))
           (λ p u q.
           replace-congr (after mark x b p (suc (length w)) u) (after-all x b p (suc (length w)) u)
-          (λ k t e. rw (e, lt-ltb i (suc (length w)) (omega arith)) (past (star x) t)) (λ p t c. refl)
-          ∙ sym (after-star b p (suc (length w)) u x))))
+          (λ k t e. rw (e, lt-ltb i (suc (length w)) (omega arith)) (past (star how x) t)) (λ p t c. refl)
+          ∙ sym (after-star b p (suc (length w)) u how x))))
 
     -- The extension.
     pub extend : (r : Re) (n : ℕ) → Numbered n r → (i : ℕ) (v : C) → i ≤ length w → carried mark r (w ++ (b ∷ [])) i v ≡ grow r b (length w) (carried mark r w i v)
@@ -196,7 +197,7 @@ module _ {C : Type 0} (mark : Mark → C → C) where
         (ap₂ _++_
         (grow-congr b (length w) x (alt x y) (carried mark x w i v) (λ p u q. sym (after-alt-left b p (suc (length w)) u x y (apart x y n (d .0) (d .1) q))) (carried-all x w i v))
         (grow-congr b (length w) y (alt x y) (carried mark y w i v) (λ p u q. sym (after-alt-right b p (suc (length w)) u x y λ l. apart x y n (d .0) (d .1) l q)) (carried-all y w i v)))
-    extend (star x) n d i v h = extend-star x (λ j. extend x n d j) (suc (length w)) i v (omega arith) h
+    extend (star how x) n d i v h = extend-star how x (λ j. extend x n d j) (suc (length w)) i v (omega arith) h
     extend (field f x) n d i v h =
         rw (extend x n d i (mark (opened f i) v) h)
         (grow-andThen b (length w) x (field f x) (close mark f) (close mark f) (carried mark x w i (mark (opened f i) v)) (carried-all x w i (mark (opened f i) v))

@@ -5,7 +5,7 @@ use Prim.Native.Nat.{ℕ, suc}
 use mathlib.Core.Bool.{Bool, true, false, cond}
 use mathlib.Core.List.{List, [], _∷_, _++_}
 use lib.Dec.{eqb}
-use Rattle.theory.specs.Pattern.{Re, empty, leaf, seq, alt, star, field, has}
+use Rattle.theory.specs.Pattern.{Manner, eager, lazy, Re, empty, leaf, seq, alt, star, field, has}
 use Rattle.theory.specs.Outcomes.{Outcome, emptyTurn, when}
 use Rattle.theory.specs.Outcomes as Plain
 use Rattle.theory.specs.Standing.{member}
@@ -32,9 +32,10 @@ module _ {C D : Type 0} (π : ℕ → ℕ) (h : C → D) where
   mapped-carry v (Outcome.endsAt k ∷ l) = rw (mapped-carry v l)
   mapped-carry v (Outcome.wants p ∷ l) = rw (mapped-carry v l)
 
-  mapped-thenLeave : (l : List (Carried C)) (i : ℕ) (v : C) → mapped π h (thenLeave l i v) ≡ thenLeave (mapped π h l) (π i) (h v)
+  mapped-thenLeave : (how : Manner) (l : List (Carried C)) (i : ℕ) (v : C) → mapped π h (thenLeave how l i v) ≡ thenLeave how (mapped π h l) (π i) (h v)
   unfolding thenLeave
-  mapped-thenLeave l i v = mapped-append l (endsAt i v ∷ [])
+  mapped-thenLeave eager l i v = mapped-append l (endsAt i v ∷ [])
+  mapped-thenLeave lazy l i v = refl
 
   mapped-when : (c : Bool) (l : List (Carried C)) → mapped π h (when c l) ≡ when c (mapped π h l)
   mapped-when true l = refl
@@ -68,9 +69,9 @@ module _ {C D : Type 0} (π : ℕ → ℕ) (h : C → D) where
     natural-start (leaf p s) n v = refl
     natural-start (seq x y) n v = mapped-andThen (start mark y) (start mark′ y) (natural-start y) (start mark x n v) ∙ rw (natural-start x n v)
     natural-start (alt x y) n v = mapped-append (start mark x n v) (start mark y n v) ∙ rw (natural-start x n v, natural-start y n v)
-    natural-start (star x) n v =
-        mapped-thenLeave (andThen (start mark x n v) (λ k u. carry u (emptyTurn k))) n v
-        ∙ ap (λ l. thenLeave l (π n) (h v))
+    natural-start (star how x) n v =
+        mapped-thenLeave how (andThen (start mark x n v) (λ k u. carry u (emptyTurn k))) n v
+        ∙ ap (λ l. thenLeave how l (π n) (h v))
         (mapped-andThen (λ k u. carry u (emptyTurn k)) (λ k u. carry u (emptyTurn k)) (λ k u. mapped-carry u (emptyTurn k) ∙ ap (carry (h u)) (replace-emptyTurn π Plain.want k)) (start mark x n v)
         ∙ rw (natural-start x n v))
     natural-start (field f x) n v =
@@ -85,8 +86,8 @@ module _ {C D : Type 0} (π : ℕ → ℕ) (h : C → D) where
         mapped-append (andThen (follow mark x p n v) (start mark y)) (follow mark y p n v)
         ∙ rw (mapped-andThen (start mark y) (start mark′ y) (natural-start y) (follow mark x p n v), natural-follow x p n v, natural-follow y p n v)
     natural-follow (alt x y) p n v = mapped-append (follow mark x p n v) (follow mark y p n v) ∙ rw (natural-follow x p n v, natural-follow y p n v)
-    natural-follow (star x) p n v =
-        mapped-andThen (start mark (star x)) (start mark′ (star x)) (natural-start (star x)) (follow mark x p n v) ∙ rw (natural-follow x p n v)
+    natural-follow (star how x) p n v =
+        mapped-andThen (start mark (star how x)) (start mark′ (star how x)) (natural-start (star how x)) (follow mark x p n v) ∙ rw (natural-follow x p n v)
     natural-follow (field f x) p n v = mapped-andThen (close mark f) (close mark′ f) (mapped-close f) (follow mark x p n v) ∙ rw (natural-follow x p n v)
 
     pub natural-after : (r : Re) (b p n : ℕ) (v : C) → mapped π h (after mark r b p n v) ≡ after mark′ r b p (π n) (h v)

@@ -11,7 +11,7 @@ use native.Mathlib.Decide.{ℕ-discrete}
 use lib.ListN.{length, drop}
 use lib.Dec.{ltb, eqb}
 use borrow.Author.Tests.{ltb-false, eq-eqb, ne-eqb}
-use Rattle.theory.specs.Pattern.{Re, empty, leaf, seq, alt, star, field}
+use Rattle.theory.specs.Pattern.{Manner, eager, lazy, Re, empty, leaf, seq, alt, star, field}
 use Rattle.theory.specs.Outcomes.{Outcome, emptyTurn, leafOutcomes, when}
 use Rattle.theory.proofs.Tests.{either}
 use Rattle.theory.proofs.Outcomes.{AllOut}
@@ -33,9 +33,10 @@ module _ {C : Type 0} {P : ℕ → C → Type 0} where
   ways-append (way x h) c = way x (ways-append h c)
   ways-append (wish h) c = wish (ways-append h c)
 
-  ways-thenLeave : {l : List (Carried C)} (i : ℕ) (v : C) → Ways P l → P i v → Ways P (thenLeave l i v)
+  ways-thenLeave : (how : Manner) {l : List (Carried C)} (i : ℕ) (v : C) → Ways P l → P i v → Ways P (thenLeave how l i v)
   unfolding thenLeave
-  ways-thenLeave i v h c = ways-append h (way c nil)
+  ways-thenLeave eager i v h c = ways-append h (way c nil)
+  ways-thenLeave lazy i v h c = way c h
 
   ways-carry : {Q : ℕ → Type 0} (v : C) {l : List (Outcome ℕ)} → AllOut (λ k. P k v) Q l → Ways P (carry v l)
   ways-carry v AllOut.none = nil
@@ -144,20 +145,20 @@ same-way x z t u i k p a =
 abbrev add : Mark → Trace → Trace
 add m t = m ∷ t
 
-star-ways : (x : Re) (f : ℕ → Trace → List (Carried Trace)) → ((i : ℕ) (t : Trace) → Ways (Way x t i) (f i t)) → (d i : ℕ) (t : Trace) → Ways (Way (star x) t i) (starOutcomes f d i t)
+star-ways : (how : Manner) (x : Re) (f : ℕ → Trace → List (Carried Trace)) → ((i : ℕ) (t : Trace) → Ways (Way x t i) (f i t)) → (d i : ℕ) (t : Trace) → Ways (Way (star how x) t i) (starOutcomes how f d i t)
 unfolding starOutcomes Without Under
-star-ways x f h zero i t = nil
-star-ways x f h (suc d) i t =
-    ways-thenLeave i t
-    (ways-andThen (λ k u c. go k u c (ltb i k) (ltb-false i k) (star-ways x f h d k u)) (h i t))
-    (no-mark (star x) t i i (omega arith))
+star-ways how x f h zero i t = nil
+star-ways how x f h (suc d) i t =
+    ways-thenLeave how i t
+    (ways-andThen (λ k u c. go k u c (ltb i k) (ltb-false i k) (star-ways how x f h d k u)) (h i t))
+    (no-mark (star how x) t i i (omega arith))
   where
-    go : (k : ℕ) (u : Trace) → Way x t i k u → (c : Bool) → (c ≡ false → k ≤ i) → Ways (Way (star x) u k) (starOutcomes f d k u) → Ways (Way (star x) t i) (cond c (starOutcomes f d k u) (carry u (emptyTurn i)))
-    go k u a true e b = ways-map (λ j s c. one-then x (star x) (star x) t u s i k j (λ g c. c, λ f g c. c) (λ g c. c, λ f g c. c) a c) b
+    go : (k : ℕ) (u : Trace) → Way x t i k u → (c : Bool) → (c ≡ false → k ≤ i) → Ways (Way (star how x) u k) (starOutcomes how f d k u) → Ways (Way (star how x) t i) (cond c (starOutcomes how f d k u) (carry u (emptyTurn i)))
+    go k u a true e b = ways-map (λ j s c. one-then x (star how x) (star how x) t u s i k j (λ g c. c, λ f g c. c) (λ g c. c, λ f g c. c) a c) b
     go k u a false e b =
         let l = nested-le (a .nests) in
         let same : k ≡ i = omega (arith, e refl) in
-        ways-carry u (all-emptyTurn {P = λ j. Way (star x) t i j u} {Q = λ p. Unit {0}} i (subst (λ j. Way (star x) t i j u) same (same-way x (star x) t u i k (λ g c. c, λ f g c. c) a)))
+        ways-carry u (all-emptyTurn {P = λ j. Way (star how x) t i j u} {Q = λ p. Unit {0}} i (subst (λ j. Way (star how x) t i j u) same (same-way x (star how x) t u i k (λ g c. c, λ f g c. c) a)))
 
 -- Each way of a part.
 ways : (r : Re) → Apart r → (w : List ℕ) (i : ℕ) (t : Trace) → Ways (Way r t i) (carried add r w i t)
@@ -177,7 +178,7 @@ ways (alt x y) h w i t =
     ways-append
     (ways-map (λ k u a. same-way x (alt x y) t u i k (λ g c. c .0, λ f g c. c .0) a) (ways x (h .0) w i t))
     (ways-map (λ k u a. same-way y (alt x y) t u i k (λ g c. c .1, λ f g c. c .1) a) (ways y (h .1) w i t))
-ways (star x) h w i t = star-ways x (carried add x w) (ways x h w) (suc (length w)) i t
+ways (star how x) h w i t = star-ways how x (carried add x w) (ways x h w) (suc (length w)) i t
 ways (field f x) h w i t = ways-andThen (λ k u a. way (one-turn x f t u i k (h .0) a) nil) (ways x (h .1) w i (opened f i ∷ t))
 
 -- The trace t as a piece of the trace w.

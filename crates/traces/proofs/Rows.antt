@@ -5,7 +5,7 @@ use Prim.Native.Nat.{ℕ}
 use mathlib.Core.Bool.{Bool, true, false}
 use mathlib.Core.List.{List, [], _∷_}
 use lib.Dec.{eqb}
-use Rattle.theory.specs.Pattern.{Re, empty, leaf, seq, alt, star, field, has}
+use Rattle.theory.specs.Pattern.{Manner, eager, lazy, Re, empty, leaf, seq, alt, star, field, has}
 use Rattle.theory.specs.Outcomes.{Outcome, emptyTurn, when}
 use Rattle.theory.specs.Outcomes as Plain
 use Rattle.theory.specs.Code.Follow.{Next}
@@ -45,12 +45,12 @@ module _ {C : Type 0} (mark : Mark → C → C) where
   plain-start (alt x y) n v =
       plain-append (start mark x n v) (start mark y n v)
       ∙ rw (plain-start x n v, plain-start y n v) (sym (Plain-laws.replace-append _ _ (Plain-rows.start x) (Plain-rows.start y)))
-  plain-start (star x) n v =
-      plain-thenLeave (andThen (start mark x n v) (λ k u. carry u (emptyTurn k))) n v
-      ∙ ap (λ l. Plain.thenLeave l n)
+  plain-start (star how x) n v =
+      plain-thenLeave how (andThen (start mark x n v) (λ k u. carry u (emptyTurn k))) n v
+      ∙ ap (λ l. Plain.thenLeave how l n)
       (plain-andThen (λ k u. carry u (emptyTurn k)) emptyTurn (λ k u. plain-carry u (emptyTurn k)) (start mark x n v)
       ∙ rw (plain-start x n v) (place-on n emptyTurn (emptyTurn tt) (sym (replace-emptyTurn (λ _. n) Plain.want tt)) (Plain-rows.start x)))
-      ∙ sym (replace-thenLeave (λ _. n) Plain.want (Plain.andThen (Plain-rows.start x) emptyTurn) tt)
+      ∙ sym (replace-thenLeave (λ _. n) Plain.want how (Plain.andThen (Plain-rows.start x) emptyTurn) tt)
   plain-start (field f x) n v =
       plain-andThen (close mark f) (λ k. Outcome.endsAt k ∷ []) (λ k u. refl) (start mark x n (mark (opened f n) v))
       ∙ rw (plain-start x n (mark (opened f n) v)) (same-place n (Plain-rows.start x))
@@ -75,9 +75,9 @@ module _ {C : Type 0} (mark : Mark → C → C) where
   plain-follow (alt x y) p n v =
       plain-append (follow mark x p n v) (follow mark y p n v)
       ∙ rw (plain-follow x p n v, plain-follow y p n v) (sym (Plain-laws.replace-append _ _ (Plain-rows.follow x p) (Plain-rows.follow y p)))
-  plain-follow (star x) p n v =
-      plain-andThen (start mark (star x)) (λ k. place k (Plain-rows.start (star x))) (plain-start (star x)) (follow mark x p n v)
-      ∙ rw (plain-follow x p n v) (place-on n (λ k. place k (Plain-rows.start (star x))) (Plain-rows.start (star x)) refl (Plain-rows.follow x p))
+  plain-follow (star how x) p n v =
+      plain-andThen (start mark (star how x)) (λ k. place k (Plain-rows.start (star how x))) (plain-start (star how x)) (follow mark x p n v)
+      ∙ rw (plain-follow x p n v) (place-on n (λ k. place k (Plain-rows.start (star how x))) (Plain-rows.start (star how x)) refl (Plain-rows.follow x p))
   plain-follow (field f x) p n v =
       plain-andThen (close mark f) (λ k. Outcome.endsAt k ∷ []) (λ k u. refl) (follow mark x p n v)
       ∙ rw (plain-follow x p n v) (same-place n (Plain-rows.follow x p))

@@ -6,7 +6,7 @@ use Prim.Native.Nat.{ℕ}
 use mathlib.Core.Bool.{Bool}
 use mathlib.Core.List.{List, [], _∷_, _++_, append-nil, append-assoc}
 use borrow.Author.Tests.{eq-eqb, ne-eqb}
-use Rattle.theory.specs.Pattern.{Re, empty, leaf, seq, alt, star, field}
+use Rattle.theory.specs.Pattern.{Manner, eager, lazy, Re, empty, leaf, seq, alt, star, field, opt}
 use Rattle.theory.specs.Outcomes.{emptyTurn}
 use Rattle.traces.specs.Traces.{opened, Carried, endsAt, wants, end, want, replace, andThen, carry, thenLeave, close}
 use Rattle.traces.specs.Code.Rows.{start, follow}
@@ -102,9 +102,11 @@ module _ (m : List (Carried Sets)) where
     unfolding start
     into-alt x y = splice-append (start note x 0 s) (start note y 0 s)
 
-    pub into-star : (x : Re) → into m s (star x) ≡ into m s x ++ joined s m
+    -- At one place a repeat is one turn or none.
+    pub into-star : (how : Manner) (x : Re) → into m s (star how x) ≡ into m s (opt how x)
     unfolding start thenLeave
-    into-star x = rw (andThen-emptyTurn (start note x 0 s)) (splice-append (start note x 0 s) (end 0 s) ∙ rw (append-nil (joined s m)))
+    into-star eager x = rw (andThen-emptyTurn (start note x 0 s))
+    into-star lazy x = rw (andThen-emptyTurn (start note x 0 s))
 
     pub into-field : (f : ℕ) (x : Re) → into m s (field f x) ≡ into (joined (closing f) m) (note (opened f 0) s) x
     unfolding start
@@ -135,9 +137,9 @@ module _ (m : List (Carried Sets)) where
     unfolding follow
     after-alt x y = splice-append (follow note x p 0 neither) (follow note y p 0 neither)
 
-    pub after-star : (x : Re) → after m (star x) p ≡ after (into m neither (star x)) x p
+    pub after-star : (how : Manner) (x : Re) → after m (star how x) p ≡ after (into m neither (star how x)) x p
     unfolding follow
-    after-star x = splice-then (star x) (follow note x p 0 neither)
+    after-star how x = splice-then (star how x) (follow note x p 0 neither)
 
     pub after-field : (f : ℕ) (x : Re) → after m (field f x) p ≡ after (joined (closing f) m) x p
     unfolding follow

@@ -10,7 +10,7 @@ Without f empty = Unit {0}
 Without f (leaf p s) = Unit {0}
 Without f (seq x y) = Without f x × Without f y
 Without f (alt x y) = Without f x × Without f y
-Without f (star x) = Without f x
+Without f (star how x) = Without f x
 Without f (field g x) = (f ≢ g) × Without f x
 
 -- and no bracket stands inside one of the same field. (A bracket and its copies never do.)
@@ -20,5 +20,5 @@ Apart empty = Unit {0}
 Apart (leaf p s) = Unit {0}
 Apart (seq x y) = Apart x × Apart y
 Apart (alt x y) = Apart x × Apart y
-Apart (star x) = Apart x
+Apart (star how x) = Apart x
 Apart (field f x) = Without f x × Apart x

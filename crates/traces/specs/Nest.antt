@@ -44,7 +44,7 @@ Under f g empty = Unit {0}
 Under f g (leaf p s) = Unit {0}
 Under f g (seq x y) = Under f g x × Under f g y
 Under f g (alt x y) = Under f g x × Under f g y
-Under f g (star x) = Under f g x
+Under f g (star how x) = Under f g x
 Under f g (field h x) = (h ≡ f) ⊎ ((h ≢ g) × Under f g x)
 
 -- A turn of the field f that begins not after a and ends not before b.

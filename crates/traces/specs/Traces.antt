@@ -5,7 +5,7 @@ use mathlib.Core.Bool.{cond}
 use mathlib.Core.List.{List, [], _∷_, _++_}
 use lib.ListN.{length, drop}
 use lib.Dec.{ltb}
-use Rattle.theory.specs.Pattern.{Re, empty, leaf, seq, alt, star, field}
+use Rattle.theory.specs.Pattern.{Manner, eager, lazy, Re, empty, leaf, seq, alt, star, field}
 use Rattle.theory.specs.Outcomes.{Outcome, emptyTurn, leafOutcomes}
 
 -- A mark of a trace: the field f opened at i, or closed at i.
@@ -53,13 +53,14 @@ plain (wants p v ∷ l) = Outcome.wants p ∷ plain l
 abbrev pub afterTurn : {C : Type 0} → ℕ → ℕ → C → List (Carried C) → List (Carried C)
 afterTurn i k v goesOn = cond (ltb i k) goesOn (carry v (emptyTurn i))
 
--- r*, its turns, "then 'ends at i'": theory's `thenLeave`. A way without a turn carries what it carried.
-unfoldable pub thenLeave : {C : Type 0} → List (Carried C) → ℕ → C → List (Carried C)
-thenLeave turns i v = turns ++ (endsAt i v ∷ [])
+-- r*, its turns, "then 'ends at i'"; r*? has "the leaving end first": theory's `thenLeave`. A way without a turn carries what it carried.
+unfoldable pub thenLeave : {C : Type 0} → Manner → List (Carried C) → ℕ → C → List (Carried C)
+thenLeave eager turns i v = turns ++ (endsAt i v ∷ [])
+thenLeave lazy turns i v = endsAt i v ∷ turns
 
-unfoldable pub starOutcomes : {C : Type 0} → (ℕ → C → List (Carried C)) → ℕ → ℕ → C → List (Carried C)
-starOutcomes f zero i v = []
-starOutcomes f (suc n) i v = thenLeave (andThen (f i v) (λ k u. afterTurn i k u (starOutcomes f n k u))) i v
+unfoldable pub starOutcomes : {C : Type 0} → Manner → (ℕ → C → List (Carried C)) → ℕ → ℕ → C → List (Carried C)
+starOutcomes how f zero i v = []
+starOutcomes how f (suc n) i v = thenLeave how (andThen (f i v) (λ k u. afterTurn i k u (starOutcomes how f n k u))) i v
 
 -- A bracket puts a mark where the way enters it, and one where the way leaves it.
 module _ {C : Type 0} (mark : Mark → C → C) where
@@ -71,7 +72,7 @@ module _ {C : Type 0} (mark : Mark → C → C) where
   carried (leaf p s) w i v = carry v (leafOutcomes p s i (drop i w))
   carried (seq x y) w i v = andThen (carried x w i v) (carried y w)
   carried (alt x y) w i v = carried x w i v ++ carried y w i v
-  carried (star x) w i v = starOutcomes (carried x w) (suc (length w)) i v
+  carried (star how x) w i v = starOutcomes how (carried x w) (suc (length w)) i v
   carried (field f x) w i v = andThen (carried x w i (mark (opened f i) v)) (close f)
 
 -- The list of outcomes with their traces.

@@ -31,7 +31,7 @@ use Rattle.verdict.proofs.Words.{alike-none, first-cut, first-unique, a
 wrong-number : {o : Before} {s : List ℕ} {n : ℕ} → Wrong o s n → n ≤ 8
 wrong-number (unopened s e) = omega arith
 wrong-number (bare b s e) = omega arith
-wrong-number (unreadySign b x s e f) = omega arith
+wrong-number (unreadySign b x s e f g) = omega arith
 wrong-number (unreadyCount s e) = omega arith
 wrong-number escapeLast = omega arith
 wrong-number (escapeOrdinary b s e) = omega arith

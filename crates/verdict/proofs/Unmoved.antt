@@ -1,4 +1,4 @@
--- What requests 1 and 2 of paper 02 leave as it was of the checker's result.
+-- What requests 1, 2 and 5 of paper 02 leave as it was of the checker's result.
 -- Assumes nothing.
 use mathlib.Core.Path.{_≡_, sym, subst}
 use mathlib.Core.Logic.{_↔_}
@@ -7,11 +7,13 @@ use Prim.Native.Nat.{ℕ}
 use Rattle.theory.specs.Pattern.{Re}
 use Rattle.theory.specs.Standing.{Standing, standingBy, standing}
 use Rattle.theory.specs.Records.{Needs}
-use Rattle.theory.specs.Base.{base, Plain, bare}
-use Rattle.theory.proofs.Unmoved.{plain-standing, bare-standing}
+use Rattle.theory.specs.Base.{base, Plain, bare, turnsFirst}
+use Rattle.theory.proofs.Unmoved.{plain-standing, bare-standing, eager-standing}
 use Rattle.grammar.specs.Grammar.{Alternation}
 use Rattle.grammar.specs.Limits.{Reads}
 use Rattle.grammar.specs.WriteOut.{writeOut}
+use Rattle.grammar.specs.Eager.{eagerly}
+use Rattle.grammar.proofs.Eager.{unsigned-eager}
 use Rattle.verdict.specs.Checked.{Whole, due, CheckedBy, by-reader, by-records, Checked}
 
 -- Two standings of the written-out pattern that are the same give the same results.
@@ -37,3 +39,9 @@ module _ {p t v : List ℕ} (z : Whole) where
   bare-checked =
       let same : (a : Alternation) → Reads p a → standing (writeOut a) ≡ standing (bare (writeOut a)) = λ a i k w. bare-standing (writeOut a) w k in
       (to (λ r. standing (bare r)) same, back (λ r. standing (bare r)) same)
+
+  -- THE RESULT OF A PATTERN WITHOUT LAZY REPEATS IS AS IT WAS, and so is every byte of both buffers.
+  pub eager-checked : ((a : Alternation) → Reads p a → eagerly a ≡ a) → Checked p t v z ↔ CheckedBy (standingBy turnsFirst) p t v z
+  eager-checked unsigned =
+      let same : (a : Alternation) → Reads p a → standing (writeOut a) ≡ standingBy turnsFirst (writeOut a) = λ a i k w. eager-standing (writeOut a) (unsigned-eager a (unsigned a i)) w k in
+      (to (standingBy turnsFirst) same, back (standingBy turnsFirst) same)

@@ -1,4 +1,4 @@
--- Paper 01's starred reference lines, from the bytes of the patterns; one of them as request 1 of paper 02 has it.
+-- Paper 01's starred reference lines, from the bytes of the patterns; one of them as request 1 of paper 02 has it, and lines of lazy repeats.
 -- Assumes nothing.
 use mathlib.Core.Path.{_≡_}
 use Prim.Native.Nat.{ℕ}
@@ -41,7 +41,11 @@ a|ab = 97 ∷ 124 ∷ 97 ∷ 98 ∷ []
 abbrev pub empty-or-a : List ℕ
 empty-or-a = 40 ∷ 124 ∷ 97 ∷ 41 ∷ 42 ∷ []
 
--- Its records: of the lines empty, 00 and 61.
+-- `a*?`, a lazy repeat (request 5): at a line's start it ends where it begins.
+abbrev pub lazy-a : List ℕ
+lazy-a = 97 ∷ 42 ∷ 63 ∷ []
+
+-- The records of both: of the lines empty, 00 and 61.
 abbrev pub three-loops : List ℕ
 three-loops = (1 ∷ 128 ∷ 128 ∷ replicate 61 0) ++ (replicate 64 0 ++ ((0 ∷ 128 ∷ 128 ∷ replicate 9 0) ++ (97 ∷ replicate 51 0)))
 
@@ -56,9 +60,12 @@ starred =
     ∷ cuts (97 ∷ []) [] nowhere nowhere  -- a
     ∷ cuts (97 ∷ 123 ∷ 50 ∷ 44 ∷ 51 ∷ 125 ∷ []) (97 ∷ 97 ∷ 97 ∷ 97 ∷ []) (span 0 3) (span 0 3)  -- a{2,3}
     ∷ cuts empty-or-a (97 ∷ 97 ∷ []) (span 0 0) (span 0 2)  -- in place of paper 01's greedy 0 2
+    ∷ cuts lazy-a (97 ∷ 97 ∷ []) (span 0 0) (span 0 2)
+    ∷ cuts (97 ∷ 123 ∷ 49 ∷ 44 ∷ 51 ∷ 125 ∷ 63 ∷ 98 ∷ []) (97 ∷ 97 ∷ 98 ∷ []) (span 0 3) (span 0 3)  -- a{1,3}?b
     ∷ checks a|ab 256 1024 (unlike 4 2) four (97 ∷ 98 ∷ [])
     ∷ checks a|ab 255 1024 (refused 10 0) three []
     ∷ checks a|ab 256 1 (refused 11 0) four []
     ∷ checks empty-or-a 192 1 (unlike 3 1) three-loops (97 ∷ [])
+    ∷ checks lazy-a 192 1 (unlike 3 1) three-loops (97 ∷ [])
     ∷ checks (40 ∷ 41 ∷ []) 65536 1024 (alike 2) ((1 ∷ 128 ∷ replicate 62 0) ++ replicate 64 0) []  -- ()
     ∷ []

@@ -2,7 +2,6 @@
 -- Assumes nothing.
 use Rattle.follow.proofs.Lists.{fresh}
 use Rattle.follow.proofs.Scans.{some-place}
-use Rattle.follow.proofs.Parts.{past-three}
 use Rattle.follow.proofs.Nexts.{after-absent, after-here, after-elsewhere, after-nothing, after-within, after-again, after-right, after-left, after-both}
 use native.Mathlib.Omega.{arith}
 use borrow.Author.Needs.{needs}
@@ -166,15 +165,15 @@ after-returns-8 : (t : ℕ) → after-lts.Need-returns-8 (callees-after t) (afte
 after-returns-8 t c =
     let c5 = c .before .before .before .before .before in
     let c8 = c5 .before .before .before in
-    let c17 = c8 .before .before .before .before .before .before .before .before .before in
+    let c11 = c8 .before .before .before in
+    let c17 = c11 .before .before .before .before .before .before in
     let s = c17 .before .before in
-    after-again (s .args .p) (some-place (c17 .before .lacks .ensures) (c17 .if1 .left)) (c8 .before .if8 .taken) (c8 .none2 .ensures _ _ fresh fresh) (c5 .closure2 .ensures) (c .after6 .ensures)
+    after-again (s .args .p) (some-place (c17 .before .lacks .ensures) (c17 .if1 .left)) (omega (arith, c11 .before .before .if4 .left, c8 .before .before .if6 .left, c11 .if5 .left)) (c8 .before .if8 .taken) (c8 .none2 .ensures _ _ fresh fresh) (c5 .closure2 .ensures) (c .after6 .ensures)
 
 after-closing-requires : (t : ℕ) → after-lts.Need-closing-requires (callees-after t) (after-at t) after.Post
 after-closing-requires t c κs =
-    let c3 = c .before .before .before in
-    let c6 = c3 .before .before .before in
-    (past-three _ (c3 .before .before .if4 .left) (c .before .if8 .left) (c3 .if5 .left) (c .before .before .if6 .left), omega (arith, c6 .if3 .left))
+    let c6 = c .before .before .before .before .before .before in
+    (c .before .if8 .left, omega (arith, c6 .if3 .left))
 
 after-join-requires-2 : (t : ℕ) → after-lts.Need-join-requires-2 (callees-after t) (after-at t) after.Post
 after-join-requires-2 t c κs =
@@ -194,12 +193,11 @@ after-returns-9 : (t : ℕ) → after-lts.Need-returns-9 (callees-after t) (afte
 after-returns-9 t c =
     let c5 = c .before .before .before .before .before in
     let c8 = c5 .before .before .before in
-    let c11 = c8 .before .before .before in
-    let c14 = c11 .before .before .before in
-    let c18 = c14 .before .before .before .before in
+    let c15 = c8 .before .before .before .before .before .before .before in
+    let c18 = c15 .before .before .before in
     let s = c18 .before .before in
     let closed = rw (c8 .closing .ensures) at (c5 .join2 .ensures) in
-    after-within (s .args .p) (some-place (c18 .before .lacks .ensures) (c18 .if1 .left)) (past-three _ (c14 .if4 .left) (c8 .before .before .if8 .left) (c11 .before .if5 .left) (c11 .if6 .left)) (omega (arith, c14 .before .if3 .left)) (c8 .before .none3 .ensures _ _ fresh fresh) closed (c .after7 .ensures)
+    after-within (s .args .p) (some-place (c18 .before .lacks .ensures) (c18 .if1 .left)) (c8 .before .before .if8 .left) (omega (arith, c15 .if3 .left)) (c8 .before .none3 .ensures _ _ fresh fresh) closed (c .after7 .ensures)
 
 pub +after-spec : {M : Type 1} → statement M
 +after-spec = close μ-after λ t. after-lts.spec (callees-after t) (after-at t)

@@ -2,10 +2,11 @@
 -- pattern at which its text begins.
 -- Assumes nothing.
 use Prim.Native.Nat.{ℕ, zero, suc, _-_}
-use mathlib.Core.Bool.{Bool, false, not, _&&_, cond}
+use mathlib.Core.Bool.{Bool, true, false, not, _&&_, cond}
 use mathlib.Core.List.{List, [], _∷_, _++_}
 use lib.ListN.{drop, replicate}
 use lib.Dec.{eqb, ltb}
+use Rattle.theory.specs.Pattern.{Manner, eager, lazy}
 use Rattle.grammar.specs.Grammar.{Atom, byte, dot, class, group, Kind, ordinary, backslash, bar, opener, closer, bracket, brace, period, stray, sign, kind}
 use Rattle.grammar.specs.Sets.{inClass}
 use Rattle.grammar.specs.Brackets.{maxFields}
@@ -13,7 +14,7 @@ use Rattle.grammar.specs.Code.Reader.{Parsed, found, missing, readClass}
 use Rattle.grammar.specs.Code.Tokens.{Token, nil, both, or, many, blocks}
 use Rattle.grammar.specs.Code.Tokens
 
--- The kinds of parts: the empty sequence, a sequence of two parts, an alternation of two, a star, the eight fields; the kinds of leaves come after them.
+-- The kinds of parts: the empty sequence, a sequence of two parts, an alternation of two, a star, a lazy star, the eight fields; the kinds of leaves come after them.
 abbrev pub emptyKind : ℕ
 emptyKind = 0
 
@@ -26,22 +27,36 @@ alternationKind = 2
 abbrev pub starKind : ℕ
 starKind = 3
 
+abbrev pub lazyStarKind : ℕ
+lazyStarKind = 4
+
+-- A program has a flag for a repeat's preference: whether it is lazy.
+abbrev pub manner : Bool → Manner
+manner true = lazy
+manner false = eager
+
+abbrev pub starOf : Manner → ℕ
+starOf eager = starKind
+starOf lazy = lazyStarKind
+
 abbrev pub firstField : ℕ
-firstField = 4
+firstField = 5
 
 abbrev pub firstLeaf : ℕ
-firstLeaf = 12
+firstLeaf = 13
 
 pub data PartKind : Type 0 where
-  anEmpty aSequence anAlternation aStar : PartKind
+  anEmpty aSequence anAlternation : PartKind
+  aStar : Manner → PartKind
   aField aLeaf : ℕ → PartKind
 
 abbrev pub partKind : ℕ → PartKind
 partKind zero = anEmpty
 partKind (suc zero) = aSequence
 partKind (suc (suc zero)) = anAlternation
-partKind (suc (suc (suc zero))) = aStar
-partKind (suc (suc (suc (suc q)))) = cond (ltb q maxFields) (aField (suc q)) (aLeaf (q - maxFields))
+partKind (suc (suc (suc zero))) = aStar eager
+partKind (suc (suc (suc (suc zero)))) = aStar lazy
+partKind (suc (suc (suc (suc (suc q))))) = cond (ltb q maxFields) (aField (suc q)) (aLeaf (q - maxFields))
 
 -- The set of a class that was found, of a byte after `\`, and of the leaf that the text begins with. What is no leaf holds nothing.
 abbrev pub foundHolds : Parsed Atom → ℕ → Bool
@@ -76,7 +91,7 @@ abbrev pub tokenBy : List ℕ → PartKind → Token
 tokenBy p anEmpty = nil
 tokenBy p aSequence = both
 tokenBy p anAlternation = or
-tokenBy p aStar = many
+tokenBy p (aStar how) = many how
 tokenBy p (aField f) = Tokens.field f
 tokenBy p (aLeaf q) = Tokens.byte 0 (λ b. ltb b 256 && leafHolds (drop q p) b)
 
@@ -89,15 +104,24 @@ exactlyCodes zero k = emptyKind ∷ []
 exactlyCodes (suc m) k = blocks (suc m) k (replicate m sequenceKind)
 
 -- {m,}: m copies, then the star of one.
-abbrev pub atLeastCodes : ℕ → List ℕ → List ℕ
-atLeastCodes m k = blocks (suc m) k (starKind ∷ replicate m sequenceKind)
+abbrev pub atLeastCodes : Manner → ℕ → List ℕ → List ℕ
+atLeastCodes how m k = blocks (suc m) k (starOf how ∷ replicate m sequenceKind)
+
+-- What stands before an optional copy, and after it: the empty sequence is the second alternative, or a lazy repeat's first.
+abbrev pub leadCodes : Manner → List ℕ
+leadCodes eager = []
+leadCodes lazy = emptyKind ∷ []
+
+abbrev pub shutCodes : Manner → List ℕ
+shutCodes eager = emptyKind ∷ alternationKind ∷ []
+shutCodes lazy = alternationKind ∷ []
 
 -- The ends of i optional copies, each around the one before.
-abbrev pub closeCodes : ℕ → List ℕ
-closeCodes zero = []
-closeCodes (suc i) = sequenceKind ∷ emptyKind ∷ alternationKind ∷ closeCodes i
+abbrev pub closeCodes : Manner → ℕ → List ℕ
+closeCodes how zero = []
+closeCodes how (suc i) = sequenceKind ∷ shutCodes how ++ closeCodes how i
 
 -- {m,n}, i = n − m: m copies, then i optional ones, each inside the one before.
-abbrev pub betweenCodes : ℕ → ℕ → List ℕ → List ℕ
-betweenCodes m zero k = exactlyCodes m k
-betweenCodes m (suc i) k = blocks m k (blocks (suc i) k ((emptyKind ∷ alternationKind ∷ closeCodes i) ++ replicate m sequenceKind))
+abbrev pub betweenCodes : Manner → ℕ → ℕ → List ℕ → List ℕ
+betweenCodes how m zero k = exactlyCodes m k
+betweenCodes how m (suc i) k = blocks m k (blocks (suc i) (leadCodes how ++ k) ((shutCodes how ++ closeCodes how i) ++ replicate m sequenceKind))

@@ -1,15 +1,15 @@
 -- The reader, as a definition that computes: it goes through the pattern from left to right and keeps the beginning that it has read.
 -- Assumes nothing.
 use Prim.Native.Nat.{ℕ, zero, suc}
-use mathlib.Core.Bool.{Bool, true, false, cond}
+use mathlib.Core.Bool.{Bool, true, false, cond, _&&_}
 use mathlib.Core.List.{List, [], _∷_}
 use lib.Dec.{eqb, leb, ltb}
 use lib.ListN.{length}
-use Rattle.grammar.specs.Grammar.{Byte, plain, escaped, Name, Item, single, range, named, Digits, one, two, Repeat, once, exactly, atLeast, between, Alternation, last, or, nothing, part, Atom, byte, dot, class, group, Kind, ordinary, backslash, bar, opener, closer, bracket, brace, period, stray, sign, kind, special, Inside, usual, closing, opening, caret, dash, inside, marked, namedText, value, isDigit, counts}
+use Rattle.grammar.specs.Grammar.{Byte, plain, escaped, Name, Item, single, range, named, Digits, one, two, Repeat, once, many, more, maybe, exactly, atLeast, between, lazily, Alternation, last, or, nothing, part, Atom, byte, dot, class, group, Kind, ordinary, backslash, bar, opener, closer, bracket, brace, period, stray, sign, kind, special, Inside, usual, closing, opening, caret, dash, inside, marked, namedText, value, isDigit, counts}
 use Rattle.grammar.specs.Limits.{maxBytes, maxDepth, maxWeight, heaviest}
 use Rattle.grammar.specs.Sets.{names}
 use Rattle.grammar.specs.Refusals.{Answer, accepted, refused}
-use Rattle.grammar.specs.Before.{Before, start, barred, opened, after, text, opens, ready}
+use Rattle.grammar.specs.Before.{Before, start, barred, opened, after, text, opens, ready, softens}
 
 -- A thing that the bytes begin with, and the bytes after it.
 pub data Parsed (A : Type 0) : Type 0 where
@@ -161,6 +161,23 @@ put (barred o) r = barred o
 put (opened o) r = opened o
 put (after o a x) r = after o a r
 
+-- A `?` after a repeat.
+abbrev pub soften : Before → Before
+soften start = start
+soften (barred o) = barred o
+soften (opened o) = opened o
+soften (after o a r) = after o a (lazily r)
+
+abbrev pub isMaybe : Repeat → Bool
+isMaybe once = false
+isMaybe many = false
+isMaybe more = false
+isMaybe maybe = true
+isMaybe (exactly m) = false
+isMaybe (atLeast m) = false
+isMaybe (between m n) = false
+isMaybe (lazily r) = false
+
 abbrev pub escape : Before → List ℕ → Move
 escape o [] = stop 3
 escape o (b ∷ s) = cond (special (kind b)) (on (after o (byte (escaped b)) once) s) (stop 3)
@@ -187,7 +204,7 @@ step bracket o b s = addAtom o (readClass s)
 step brace o b s = cond (ready o) (addCount o (readCount s)) (stop 2)
 step period o b s = on (after o dot once) s
 step stray o b s = stop 2
-step (sign r) o b s = cond (ready o) (on (put o r) s) (stop 2)
+step (sign r) o b s = cond (ready o) (on (put o r) s) (cond (isMaybe r && softens o) (on (soften o) s) (stop 2))
 
 abbrev pub place : Before → ℕ
 place o = length (text o [])

@@ -3,7 +3,7 @@
 use Prim.Native.Nat.{ℕ, zero, suc, _+_}
 use mathlib.Core.Bool.{Bool}
 use mathlib.Core.List.{List, [], _∷_, _++_}
-use Rattle.theory.specs.Pattern.{Re, empty, leaf, seq, alt, star}
+use Rattle.theory.specs.Pattern.{Manner, Re, empty, leaf, seq, alt, star}
 use Rattle.theory.specs.Pattern
 
 -- How many parts a pattern has, itself included: as many as tokens.
@@ -12,7 +12,7 @@ nodes empty = 1
 nodes (leaf p s) = 1
 nodes (seq x y) = suc (nodes x + nodes y)
 nodes (alt x y) = suc (nodes x + nodes y)
-nodes (star x) = suc (nodes x)
+nodes (star how x) = suc (nodes x)
 nodes (Pattern.field f x) = suc (nodes x)
 
 -- No pattern within the limits has more parts (`nodes-within`).
@@ -20,7 +20,8 @@ abbrev pub maxParts : ℕ
 maxParts = 2815
 
 pub data Token : Type 0 where
-  nil both or many : Token
+  nil both or : Token
+  many : Manner → Token
   byte : ℕ → (ℕ → Bool) → Token
   field : ℕ → Token
 
@@ -29,7 +30,7 @@ tokens empty = nil ∷ []
 tokens (leaf p s) = byte p s ∷ []
 tokens (seq x y) = tokens x ++ (tokens y ++ (both ∷ []))
 tokens (alt x y) = tokens x ++ (tokens y ++ (or ∷ []))
-tokens (star x) = tokens x ++ (many ∷ [])
+tokens (star how x) = tokens x ++ (many how ∷ [])
 tokens (Pattern.field f x) = tokens x ++ (field f ∷ [])
 
 -- Read back with a stack.
@@ -43,8 +44,8 @@ decode (both ∷ l) (y ∷ x ∷ k) = decode l (seq x y ∷ k)
 decode (or ∷ l) [] = []
 decode (or ∷ l) (y ∷ []) = []
 decode (or ∷ l) (y ∷ x ∷ k) = decode l (alt x y ∷ k)
-decode (many ∷ l) [] = []
-decode (many ∷ l) (x ∷ k) = decode l (star x ∷ k)
+decode (many how ∷ l) [] = []
+decode (many how ∷ l) (x ∷ k) = decode l (star how x ∷ k)
 decode (field f ∷ l) [] = []
 decode (field f ∷ l) (x ∷ k) = decode l (Pattern.field f x ∷ k)
 
@@ -54,7 +55,7 @@ renumber n [] = []
 renumber n (nil ∷ l) = nil ∷ renumber n l
 renumber n (both ∷ l) = both ∷ renumber n l
 renumber n (or ∷ l) = or ∷ renumber n l
-renumber n (many ∷ l) = many ∷ renumber n l
+renumber n (many how ∷ l) = many how ∷ renumber n l
 renumber n (field f ∷ l) = field f ∷ renumber n l
 renumber n (byte p s ∷ l) = byte n s ∷ renumber (suc n) l
 
@@ -64,7 +65,7 @@ leafs [] = 0
 leafs (nil ∷ l) = leafs l
 leafs (both ∷ l) = leafs l
 leafs (or ∷ l) = leafs l
-leafs (many ∷ l) = leafs l
+leafs (many how ∷ l) = leafs l
 leafs (field f ∷ l) = leafs l
 leafs (byte p s ∷ l) = suc (leafs l)
 

@@ -1,6 +1,5 @@
--- `counted` finds the count after an atom, or its fault.
+-- `counted` finds the count after an atom, with its sign or without, or its fault.
 -- Assumes nothing.
-use mathlib.Core.Path.{_≡_, refl, sym, ap, _∙_, subst}
 use native.Mathlib.Omega.{arith}
 use Rattle.reader.specs.Steps.{found-part, found-fault}
 use Rattle.reader.proofs.Begins.{fault-count}
@@ -9,45 +8,74 @@ use Rattle.reader.proofs.Scans.{count-none, count-exactly, count-atLeas
 use borrow.Author.Needs.{needs}
 use Rattle.reader.proofs.counted.Statement.{statement}
 use Rattle.reader.proofs.counted.Tie as tie
-use Rattle.reader.proofs.counted.Reads as reads
-use Rattle.reader.proofs.counted.Lts as lts
-use Rattle.reader.proofs.found.Reads as found-reads
-use Rattle.reader.proofs.load.Reads as load-reads
-use Rattle.scanner.proofs.read_count.Reads as read-count-reads
-use Rattle.reader.proofs.refused.Reads as refused-reads
-use Rattle.tokens.proofs.at_least.Reads as at-least-reads
-use Rattle.tokens.proofs.between.Reads as between-reads
-use Rattle.tokens.proofs.exactly.Reads as exactly-reads
+
+past-requires : tie.Need-past-requires
+past-requires c κs =
+    let c4 = c .before .before .before .before in
+    let c6 = c4 .before .before in
+    let (d, f, g, o) = count-exactly _ _ _ (c4 .count .given .1) (c6 .read-count .ensures) in
+    omega (arith, o .inside, c6 .before .before .pre .0 .begin .short)
+
+past-requires-2 : tie.Need-past-requires-2
+past-requires-2 c κs =
+    let c4 = c .before .before .before .before in
+    let c6 = c4 .before .before in
+    let (d, f, g, o) = count-atLeast _ _ _ (c4 .count2 .given .1) (c6 .read-count .ensures) in
+    omega (arith, o .inside, c6 .before .before .pre .0 .begin .short)
+
+past-requires-3 : tie.Need-past-requires-3
+past-requires-3 c κs =
+    let c4 = c .before .before .before .before in
+    let c6 = c4 .before .before in
+    let (d, d′, f, g, g′, o) = count-between _ _ _ (c4 .count3 .given .1) (c6 .read-count .ensures) in
+    omega (arith, o .inside, c6 .before .before .pre .0 .begin .short)
 
 load-requires : tie.Need-load-requires
-load-requires c κs = omega (arith, exactly-63 _ _ _ (c .before .before .before .count .given .1) (c .before .before .before .before .before .read-count .ensures))
+load-requires c κs =
+    let c5 = c .before .before .before .before .before in
+    omega (arith, exactly-63 _ _ _ (c5 .count .given .1) (c5 .before .before .read-count .ensures))
 
 add-load : tie.Need-add-load
-add-load c = omega (arith, atLeast-63 _ _ _ (c .before .before .before .count2 .given .1) (c .before .before .before .before .before .read-count .ensures))
+add-load c =
+    let c5 = c .before .before .before .before .before in
+    omega (arith, atLeast-63 _ _ _ (c5 .count2 .given .1) (c5 .before .before .read-count .ensures))
 
 load-requires-2 : tie.Need-load-requires-2
-load-requires-2 c κs = omega (arith, atLeast-63 _ _ _ (c .before .before .before .count2 .given .1) (c .before .before .before .before .before .read-count .ensures))
+load-requires-2 c κs =
+    let c5 = c .before .before .before .before .before in
+    omega (arith, atLeast-63 _ _ _ (c5 .count2 .given .1) (c5 .before .before .read-count .ensures))
 
 load-requires-3 : tie.Need-load-requires-3
-load-requires-3 c κs = omega (arith, between-63 _ _ _ (c .before .before .before .count3 .given .1) (c .before .before .before .before .before .read-count .ensures))
+load-requires-3 c κs =
+    let c5 = c .before .before .before .before .before in
+    omega (arith, between-63 _ _ _ (c5 .count3 .given .1) (c5 .before .before .read-count .ensures))
 
 returns : tie.Need-returns
 returns c =
-    let c5 = c .before .before .before .before .before in
-    let c9 = c5 .before .before .before .before in
-    rw (c .found .ensures) (found-part (let (d, f, g, o) = count-exactly _ _ _ (c5 .count .given .1) (c5 .before .before .read-count .ensures) in exactly-here (c9 .pre .1) (c9 .pre .2) o d _ _ f g (c .before .load .ensures) (c .before .before .exactly .ensures)))
+    let c3 = c .before .before .before in
+    let c7 = c3 .before .before .before .before in
+    let s = c7 .before .before .before .before in
+    let (d, f, g, o) = count-exactly _ _ _ (c7 .count .given .1) (c7 .before .before .read-count .ensures) in
+    rw (c .found .ensures, c .before .before .past .ensures)
+    (found-part (exactly-here (s .pre .1) (s .pre .2) o _ (c3 .before .before .has-byte .ensures) d _ _ f g (c .before .load .ensures) (c3 .exactly .ensures)))
 
 returns-2 : tie.Need-returns-2
 returns-2 c =
-    let c5 = c .before .before .before .before .before in
-    let c9 = c5 .before .before .before .before in
-    rw (c .found2 .ensures) (found-part (let (d, f, g, o) = count-atLeast _ _ _ (c5 .count2 .given .1) (c5 .before .before .read-count .ensures) in atLeast-here (c9 .pre .1) (c9 .pre .2) o d _ _ f g (c .before .load2 .ensures) (c .before .before .at-least .ensures)))
+    let c3 = c .before .before .before in
+    let c7 = c3 .before .before .before .before in
+    let s = c7 .before .before .before .before in
+    let (d, f, g, o) = count-atLeast _ _ _ (c7 .count2 .given .1) (c7 .before .before .read-count .ensures) in
+    rw (c .found2 .ensures, c .before .before .past2 .ensures)
+    (found-part (atLeast-here (s .pre .1) (s .pre .2) o _ (c3 .before .before .has-byte2 .ensures) d _ _ f g (c .before .load2 .ensures) (c3 .at-least .ensures)))
 
 returns-3 : tie.Need-returns-3
 returns-3 c =
-    let c5 = c .before .before .before .before .before in
-    let c9 = c5 .before .before .before .before in
-    rw (c .found3 .ensures) (found-part (let (d, d′, f, g, g′, o) = count-between _ _ _ (c5 .count3 .given .1) (c5 .before .before .read-count .ensures) in between-here (c9 .pre .1) (c9 .pre .2) o d d′ _ _ _ f g g′ (c .before .load3 .ensures) (c .before .before .between .ensures)))
+    let c3 = c .before .before .before in
+    let c7 = c3 .before .before .before .before in
+    let s = c7 .before .before .before .before in
+    let (d, d′, f, g, g′, o) = count-between _ _ _ (c7 .count3 .given .1) (c7 .before .before .read-count .ensures) in
+    rw (c .found3 .ensures, c .before .before .past3 .ensures)
+    (found-part (between-here (s .pre .1) (s .pre .2) o _ (c3 .before .before .has-byte3 .ensures) d d′ _ _ _ f g g′ (c .before .load3 .ensures) (c3 .between .ensures)))
 
 returns-4 : tie.Need-returns-4
 returns-4 c =
@@ -63,15 +91,21 @@ counted-spec =
     (λ c κs. search needs)
     (λ c. search needs)
     (λ c κs. search needs)
+    (λ c κs. search needs)
+    past-requires
     load-requires
     (λ c κs. search needs)
     (λ c. search needs)
     (λ c κs. search needs)
+    (λ c κs. search needs)
+    past-requires-2
     add-load
     load-requires-2
     (λ c κs. search needs)
     (λ c. search needs)
     (λ c κs. search needs)
+    (λ c κs. search needs)
+    past-requires-3
     load-requires-3
     (λ c κs. search needs)
     (λ c. search needs)

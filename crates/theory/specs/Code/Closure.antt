@@ -5,7 +5,7 @@ use Prim.Native.Nat.{ℕ, zero, suc}
 use mathlib.Core.Bool.{cond}
 use mathlib.Core.List.{List, [], _∷_, _++_}
 use lib.Dec.{eqb}
-use Rattle.theory.specs.Pattern.{Re, empty, leaf, seq, alt, star, field, has}
+use Rattle.theory.specs.Pattern.{Manner, eager, lazy, Re, empty, leaf, seq, alt, star, field, has}
 use Rattle.theory.specs.Outcomes.{endsAt, wants}
 use Rattle.theory.specs.Standing.{once}
 use Rattle.theory.specs.Code.Follow.{Next}
@@ -32,13 +32,18 @@ at0 m (suc p) = suc p ∷ []
 abbrev pub splice : List ℕ → List ℕ → List ℕ
 splice m l = flat (at0 m) l
 
+-- A repeat's turns, and where it is left.
+abbrev pub leaving : Manner → List ℕ → List ℕ
+leaving eager l = l ++ (0 ∷ [])
+leaving lazy l = 0 ∷ l
+
 -- THE CLOSURE OF A PART, with each outcome once, from those of its parts.
 unfoldable pub closure : Re → List ℕ
 closure empty = 0 ∷ []
 closure (leaf p s) = suc p ∷ []
 closure (seq x y) = once (splice (closure y) (closure x))
 closure (alt x y) = once (closure x ++ closure y)
-closure (star x) = once (closure x ++ (0 ∷ []))
+closure (star how x) = once (leaving how (closure x))
 closure (field f x) = closure x
 
 -- The same right after the leaf p took a byte.
@@ -47,7 +52,7 @@ closureAfter empty p = []
 closureAfter (leaf q s) p = cond (eqb p q) (0 ∷ []) []
 closureAfter (seq x y) p = once (splice (closure y) (closureAfter x p) ++ closureAfter y p)
 closureAfter (alt x y) p = once (closureAfter x p ++ closureAfter y p)
-closureAfter (star x) p = once (splice (closure (star x)) (closureAfter x p))
+closureAfter (star how x) p = once (splice (closure (star how x)) (closureAfter x p))
 closureAfter (field f x) p = closureAfter x p
 
 -- What a byte makes of a list of leaves.

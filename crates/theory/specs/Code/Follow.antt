@@ -20,7 +20,7 @@ start empty = here ∷ []
 start (leaf p s) = want p
 start (seq x y) = andThen (start x) (λ _. start y)
 start (alt x y) = start x ++ start y
-start (star x) = thenLeave (andThen (start x) emptyTurn) tt
+start (star how x) = thenLeave how (andThen (start x) emptyTurn) tt
 start (field f x) = start x
 
 -- The list of a part at the line's end right after its leaf p took the last byte. A part without that leaf has none.
@@ -30,7 +30,7 @@ follow empty p = []
 follow (leaf q s) p = when (eqb p q) (here ∷ [])
 follow (seq x y) p = andThen (follow x p) (λ _. start y) ++ follow y p
 follow (alt x y) p = follow x p ++ follow y p
-follow (star x) p = andThen (follow x p) (λ _. start (star x))
+follow (star how x) p = andThen (follow x p) (λ _. start (star how x))
 follow (field f x) p = follow x p
 
 -- What becomes of `wants p` when the line grows by b.

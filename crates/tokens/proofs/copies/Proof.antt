@@ -18,7 +18,7 @@ abbrev μ-loop : tie.MeasureT-loop
 μ-loop a₀ len from n size end₀ i₀ a end i = n - i
 
 returns : tie.Need-returns Inv-loop μ-loop
-returns c = outside _ _ _ _ (c .if1 .taken)
+returns c = (omega arith, outside _ _ _ _ (c .if1 .taken))
 
 loop-holds : tie.Need-loop-holds Inv-loop μ-loop
 loop-holds c = (omega arith, omega arith, copies-none _ _ _)
@@ -27,7 +27,7 @@ loop-again : tie.Need-loop-again Inv-loop μ-loop
 loop-again c = (omega arith, omega (arith, c .copy .ensures .more), copies-more _ (c .before .before .before .loop .i) (c .before .before .before .before .if1 .left) (c .before .before .before .loop .inv .2) (c .copy .ensures))
 
 returns-2 : tie.Need-returns-2 Inv-loop μ-loop
-returns-2 c = let e : c .before .loop .i ≡ c .before .before .before .args .n = omega arith in rw e at (c .before .loop .inv .2)
+returns-2 c = let e : c .before .loop .i ≡ c .before .before .before .args .n = omega arith in (c .before .loop .inv .1, rw e at (c .before .loop .inv .2))
 
 pub copies-spec : {M : Type 1} → statement M
 copies-spec =

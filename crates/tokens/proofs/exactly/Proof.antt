@@ -14,7 +14,7 @@ returns-2 : tie.Need-returns-2
 returns-2 c = same-codes (replaced (c .before .before .if2 .left) (c .push .ensures)) (no-codes _ (c .before .before .before .if1 .taken))
 
 returns-3 : tie.Need-returns-3
-returns-3 c = same-codes (then-added (c .before .before .copies .ensures) (c .pushes .ensures)) (exactly-codes (c .before .before .before .before .before .args .times) (omega arith))
+returns-3 c = same-codes (then-added (c .before .before .copies .ensures .1) (c .pushes .ensures)) (exactly-codes (c .before .before .before .before .before .args .times) (omega arith))
 
 pub exactly-spec : {M : Type 1} → statement M
 exactly-spec =

@@ -6,7 +6,7 @@ use Rattle.tokens.proofs.star.Statement.{statement}
 use Rattle.tokens.proofs.star.Tie as tie
 
 returns : tie.Need-returns
-returns c = then-added (kept _ _ _) (c .push .ensures)
+returns c = rw (← c .before .star-code .ensures) (then-added (kept _ _ _) (c .push .ensures))
 
 pub star-spec : {M : Type 1} → statement M
-star-spec = tie.close (tie.spec (λ c κs. search needs) returns)
+star-spec = tie.close (tie.spec (λ c κs. search needs) (λ c κs. search needs) returns)

@@ -14,7 +14,7 @@ module _ {C : Type 0} (mark : Mark → C → C) where
   start (leaf p s) n v = want p v
   start (seq x y) n v = andThen (start x n v) (start y)
   start (alt x y) n v = start x n v ++ start y n v
-  start (star x) n v = thenLeave (andThen (start x n v) (λ k u. carry u (emptyTurn k))) n v
+  start (star how x) n v = thenLeave how (andThen (start x n v) (λ k u. carry u (emptyTurn k))) n v
   start (field f x) n v = andThen (start x n (mark (opened f n) v)) (close mark f)
 
   unfoldable pub follow : Re → ℕ → ℕ → C → List (Carried C)
@@ -23,7 +23,7 @@ module _ {C : Type 0} (mark : Mark → C → C) where
   follow (leaf q s) p n v = when (eqb p q) (end n v)
   follow (seq x y) p n v = andThen (follow x p n v) (start y) ++ follow y p n v
   follow (alt x y) p n v = follow x p n v ++ follow y p n v
-  follow (star x) p n v = andThen (follow x p n v) (start (star x))
+  follow (star how x) p n v = andThen (follow x p n v) (start (star how x))
   follow (field f x) p n v = andThen (follow x p n v) (close mark f)
 
   -- What becomes of `wants p` when the line grows by b to the length n.
