@@ -5,6 +5,8 @@
 # no Unicode rule enters, and a group captures nothing. For glibc, with the extended syntax in the C locale, a special byte stands after `\`, every class and `.` is
 # a bracket expression of its bytes, and the empty sequence is `()`.
 #
+# A lazy repeat is Perl's own; to glibc, which has none, it is the plain repeat, as to the paper's POSIX reading.
+#
 # Any part may be under any sign, one that matches the empty string too. At an empty turn Perl leaves the repeat, as the paper does. It leaves a count `{m,n}` as
 # well, which the paper only writes out: `(|a|aaa){0,2}(ab|bc)` on `aaabc` has the greedy span 0 5 by the paper, 0 4 by Perl's count. So for Perl such a count is
 # written out. `?`, `{m}` and `{m,}` are not: in the first m turns Perl does not look for an empty one, and where the last of these is empty, the turns that the
@@ -119,22 +121,23 @@ sub group {
     };
 }
 
-# Without a most there is no bound.
+# Without a most there is no bound. A lazy repeat has a `?` after its sign.
 sub repeat {
-    my ($atom, $sign, $least, $most) = @_;
+    my ($atom, $sign, $least, $most, $lazy) = @_;
+    my $mark = $lazy ? '?' : '';
     my $ways = sum0(map { $atom->{empty} ** $_ } $least .. $most // $least);
     # Perl takes no leading zero in a count.
     my $plain = $sign =~ s/\b0(?=\d)//gr;
     # The optional turns of a count that is written out.
     my $more = $atom->{empty} && defined $most && $most > 1 ? $most - $least : 0;
-    my $perl = $more ? $atom->{perl} x $least . "(?:$atom->{perl}" x $more . ')?' x $more : $atom->{perl} . $plain;
+    my $perl = $more ? $atom->{perl} x $least . "(?:$atom->{perl}" x $more . ")?$mark" x $more : "$atom->{perl}$plain$mark";
     my $sample = sub {
         my $times = defined $most && rand() < 0.2 ? $most : $least;
         $times++ while (!defined $most || $times < $most) && rand() < 0.6;
         return join '', map { $atom->{sample}->() } 1 .. $times;
     };
     return {
-        kind => 'repeat', ours => $atom->{ours} . $sign, perl => $perl, caught => $atom->{caught} . $plain, posix => $atom->{posix} . $plain,
+        kind => 'repeat', ours => "$atom->{ours}$sign$mark", perl => $perl, caught => "$atom->{caught}$plain$mark", posix => $atom->{posix} . $plain,
         brackets => $atom->{brackets}, skips => $least ? $atom->{skips} : $atom->{brackets} > 0, again => $atom->{brackets} > 0,
         left => $atom->{left} || ($atom->{skips} || $atom->{again}) && ($most // 2) > 1, empty => $ways, widest => max($ways, $atom->{widest}),
         has => [@{$atom->{has}}, $atom->{empty} ? 'repeat of a part that matches empty' : (), $more ? 'count written out for Perl' : ()],
@@ -144,7 +147,7 @@ sub repeat {
 
 # ---- Patterns.
 
-# All parts of so many leaves, empty alternatives and signs (`*`, `+`, `?` or `{2}`) over the bytes a and b.
+# All parts of so many leaves, empty alternatives and signs (`*`, `+`, `?`, the lazy ones of these, or `{2}`) over the bytes a and b.
 sub small_parts {
     my ($size) = @_;
     return (byte('a'), byte('b'), sequence()) if $size == 1;
@@ -158,7 +161,7 @@ sub small_parts {
         }
     }
     for my $atom (map { $_->{kind} eq 'leaf' ? $_ : group($_) } small_parts($size - 1)) {
-        push @parts, repeat($atom, '*', 0), repeat($atom, '+', 1), repeat($atom, '?', 0, 1), repeat($atom, '{2}', 2, 2);
+        push @parts, map({ my @sign = @$_; map { repeat($atom, @sign, $_) } 0, 1 } ['*', 0, undef], ['+', 1, undef], ['?', 0, 1]), repeat($atom, '{2}', 2, 2);
     }
     return @parts;
 }
@@ -191,8 +194,8 @@ sub random_repeat {
     my ($n, $open) = ($up_to->($copies), $up_to->($copies - 1));
     my $m = $up_to->($n);
     my $count = pick('%d', '%d', '%d', '%02d');
-    return repeat($atom, @{pick(['*', 0], $copies > 1 ? ['+', 1] : ['*', 0], ['?', 0, 1], [sprintf("{$count}", $n), $n, $n],
-        [sprintf("{$count,}", $open), $open], [sprintf("{$count,$count}", $m, $n), $m, $n])});
+    return repeat($atom, @{pick(['*', 0, undef], $copies > 1 ? ['+', 1, undef] : ['*', 0, undef], ['?', 0, 1], [sprintf("{$count}", $n), $n, $n],
+        [sprintf("{$count,}", $open), $open, undef], [sprintf("{$count,$count}", $m, $n), $m, $n])}, rand() < 0.3);
 }
 
 # The next three weigh at most what is left, and have so many brackets open together at most; nest says how readily one opens.
@@ -288,11 +291,12 @@ sub small_cases {
     return map { case_of($_, $lines) } grep { $_->{ours} !~ /^[^a]*b/ } map { small_parts($_) } 1 .. 4;
 }
 
-# `(|a)*`, and the count from the head of this file, for the self-test.
-sub empty_turn_cases {
+# `(|a)*`, the count from the head of this file, and `a*?`, for the self-test.
+sub repeat_cases {
     @own = ();
     my ($turn, $tail) = map { group(alternation(map { sequence(map { byte($_) } split //) } @$_)) } ['', 'a', 'aaa'], ['ab', 'bc'];
-    return case_of(repeat(group(alternation(sequence(), byte('a'))), '*', 0), [short_lines()]), case_of(sequence(repeat($turn, '{0,2}', 0, 2), $tail), ['aaabc']);
+    return case_of(repeat(group(alternation(sequence(), byte('a'))), '*', 0), [short_lines()]), case_of(sequence(repeat($turn, '{0,2}', 0, 2), $tail), ['aaabc']),
+        case_of(repeat(byte('a'), '*', 0, undef, 1), [short_lines()]);
 }
 
 # The constructs of a case's pattern, for the summary. Each of these is told by one token of the text.
@@ -300,13 +304,14 @@ my @CONSTRUCTS = (
     ['escaped byte', qr/^\\/], ['byte above 127', qr/^[\x80-\xff]/], ['control byte', qr/^[\0-\x1f\x7f]/], ['.', qr/^\./], ['group', qr/^\(/],
     ['alternation', qr/^\|/], ['class', qr/^\[[^^]/], ['negated class', qr/^\[\^/], ['range', qr/^\[(\\.|[^\\-])*-/s], ['escape in a class', qr/^\[.*\\/s],
     map({ [$_, qr/^\[.*\[:$_:\]/s] } @NAMES),
-    ['*', qr/^\*/], ['+', qr/^\+/], ['?', qr/^\?/], ['{m}', qr/^\{\d+\}/], ['{m,}', qr/^\{\d+,\}/], ['{m,n}', qr/^\{\d+,\d/],
+    map({ my ($name, $sign) = @$_; [$name, qr/^$sign\z/], ["$name?", qr/^$sign\?\z/] }
+        ['*', qr/\*/], ['+', qr/\+/], ['?', qr/\?/], ['{m}', qr/\{\d+\}/], ['{m,}', qr/\{\d+,\}/], ['{m,n}', qr/\{\d+,\d+\}/]),
 );
 
 sub constructs {
     my ($case) = @_;
     my ($last, %has) = ('(', map { $_ => 1 } @{$case->{has}});
-    for my $token ($case->{ours} =~ /\\.|\[(?:\[:\w+:\]|\\.|[^\]\\])+\]|\{[\d,]+\}|./gs, ')') {
+    for my $token ($case->{ours} =~ /\\.|\[(?:\[:\w+:\]|\\.|[^\]\\])+\]|(?:\{[\d,]+\}|[*+?])\??|./gs, ')') {
         $has{$_->[0]} = 1 for grep { $token =~ $_->[1] } @CONSTRUCTS;
         $has{'empty sequence'} = 1 if $last =~ /^[(|]$/ && $token =~ /^[|)]$/;
         $has{'repeat of a group'} = 1 if $last eq ')' && $token =~ /^[*+?{]/;
