@@ -2,7 +2,11 @@
 
 fields(pattern, line) -> ('refused', number, place), ('none',) or ('span', start, end, [(start, end) or None for each field]).
 
-Run from the repository, `python3 tests/reference/fields.py` writes the input and expected output of the program `ask`."""
+Run from the repository, `python3 tests/reference/fields.py` writes the input and expected output of the program `ask`, and tests/request-cases/05/fields.jsonl: the cases of request 2,
+whose results stay, and cases with lazy repeats (request 5)."""
+import itertools
+import json
+import random
 import sys
 from paper01 import openings, read
 
@@ -69,6 +73,25 @@ def shown(pattern, line):
     return ' '.join(['greedy %d %d fields' % told[1:3]] + ['-' if f is None else '%d %d' % f for f in told[3]])
 
 
+# Lazy repeats over brackets, inside brackets and around them, with a rest that needs more turns and without; copies, empty turns, and a sign without an effect.
+LAZY = ['(a)*?', '(a)+?', '(a)??', '(a){1,2}?', '(a)*?b', '(a)+?b', '(a)??b', '(a){0,2}?b', '(a){1,}?b', '(a){2}?b', '(a*?)(a*)', '(a*)(a*?)', '(a??)(a?)', '(a*?)(b+?)', '(a|(b))*?c', '((a)*?b)*?c',
+        '((a)|b)+?(b*?)', '(a(b)??)*', '(a(b)??)*?b', '(|a)*?b', '((|a)+?)b', '(a{1,2}?){2}', '((a)??){2,}?b', '(.)*?(b)', '([ab]*?)(b|bb)', '(a)(b)??(a)??b', '((((a)*?)*?)*?)b', '(()*?)*?a',
+        '(a)*?(b)*?(a)*?b', '(a|b)*?(ab)', '(a??b??){2,3}?a', '(a)(a)(a)(a)(a)(a)(a)(a)??', '(a)(a)(a)(a)(a)(a)(a)(a)(a)??', '(a*??)']
+
+
+def told(pattern, line):
+    answer = fields(pattern, line)
+    return [*answer[:3], [list(f) if f else None for f in answer[3]]] if answer[0] == 'span' else list(answer)
+
+
+def lazy_cases():
+    rng = random.Random(20261116)
+    lines = [bytes(w) for n in range(5) for w in itertools.product(b'ab', repeat=n)]
+    for p in LAZY:
+        for line in sorted(rng.sample(lines, 12)) + [b'aab', b'aababbc']:
+            yield {'pattern': p.encode().hex(), 'line': line.hex(), 'fields': told(p.encode(), line)}
+
+
 if __name__ == '__main__':
     # Eight brackets: inside each other, left out by a later turn, with copies.
     PATTERN = b'((a|(b))*(c+)?((d)|e))+((f){2}|x)?y*'
@@ -79,3 +102,11 @@ if __name__ == '__main__':
     with open('crates/ask/stdout', 'w') as out:
         out.writelines(shown(PATTERN, line) + '\n' for line in LINES)
     print('ask', len(LINES), 'lines')
+    with open('tests/request-cases/02/fields.jsonl') as before:
+        cases = [json.loads(row) for row in before]
+    for c in cases:
+        assert told(bytes.fromhex(c['pattern']), bytes.fromhex(c['line'])) == c['fields'], c
+    cases += lazy_cases()
+    with open('tests/request-cases/05/fields.jsonl', 'w') as out:
+        out.writelines(json.dumps(c) + '\n' for c in cases)
+    print('05/fields.jsonl', len(cases), 'cases')

@@ -256,10 +256,10 @@ pub extern "C" fn yindorka_check_looking(
     }
 }
 
-// The version of the library: 10400 is 1.4.0.
+// The version of the library: 10500 is 1.5.0.
 #[no_mangle]
 pub extern "C" fn yindorka_version() -> u32
-    ensures version { λ r. ⌜ r ≡ 10400 ⌝ }
+    ensures version { λ r. ⌜ r ≡ 10500 ⌝ }
 {
-    10400
+    10500
 }
