@@ -155,6 +155,34 @@ written-softer : (t : Alternation) → Softer (writeOut (eagerly t)) (writeOut t
 unfolding writeOut
 written-softer t = softer-number (shape-softer t 0) 0
 
+repeat-twice : (r : Repeat) → eagerRepeat (eagerRepeat r) ≡ eagerRepeat r
+repeat-twice once = refl
+repeat-twice many = refl
+repeat-twice more = refl
+repeat-twice maybe = refl
+repeat-twice (exactly m) = refl
+repeat-twice (atLeast m) = refl
+repeat-twice (between m n) = refl
+repeat-twice (lazily r) = repeat-twice r
+
+-- Nothing is left to be taken away.
+mutual
+  unfolding eagerly
+
+  pub eagerly-twice : (t : Alternation) → eagerly (eagerly t) ≡ eagerly t
+  eagerly-twice (last q) = ap last (sequence-twice q)
+  eagerly-twice (or q t) = ap₂ or (sequence-twice q) (eagerly-twice t)
+
+  sequence-twice : (q : Sequence) → eagerSequence (eagerSequence q) ≡ eagerSequence q
+  sequence-twice nothing = refl
+  sequence-twice (part a r q) = λ i. part (atom-twice a i) (repeat-twice r i) (sequence-twice q i)
+
+  atom-twice : (a : Atom) → eagerAtom (eagerAtom a) ≡ eagerAtom a
+  atom-twice (byte x) = refl
+  atom-twice dot = refl
+  atom-twice (class c x l) = refl
+  atom-twice (group t) = ap group (eagerly-twice t)
+
 -- THE POSIX READING TREATS THE SIGN AS THE PLAIN REPEAT,
 pub eagerly-posix : (t : Alternation) (w : List ℕ) → posix (writeOut (eagerly t)) w ≡ posix (writeOut t) w
 eagerly-posix t w = reordered-posix (reordered (written-softer t)) w

@@ -16,3 +16,4 @@ pub mod Suffix
 pub mod Codes
 -- What does not depend on the signs of lazy repeats.
 pub mod Eager
+pub mod Unsigned

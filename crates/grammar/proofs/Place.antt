@@ -12,7 +12,7 @@ use Rattle.grammar.specs.Before.{Before, start, barred, opened, after, t
 use Rattle.grammar.proofs.Unique.{afterSequence, afterAlternation, opens-sequence}
 
 -- The text F stands before s.
-abbrev Leads : (List ℕ → List ℕ) → Type 0
+abbrev pub Leads : (List ℕ → List ℕ) → Type 0
 Leads F = (s : List ℕ) → F s ≡ F [] ++ s
 
 -- One text, then another.
