@@ -1,20 +1,25 @@
--- Demand 2 in its words, about the reply of `cut_line`, and what demand 1 says of its refusal.
+-- Demand 2 in its words, about the reply of `cut_line`, what demand 1 says of its refusal, and what request 5 leaves as it was.
 -- Assumes nothing.
 use mathlib.Core.Path.{_≡_, refl, sym, ap, _∙_}
 use mathlib.Core.Logic.{_↔_}
 use Prim.Native.Nat.{ℕ}
-use mathlib.Core.List.{List}
+use mathlib.Core.List.{List, []}
 use native.Mathlib.Omega.{arith}
-use Rattle.theory.specs.Spans.{nowhere}
+use Rattle.theory.specs.Spans.{nowhere, greedyBy, posixBy}
+use Rattle.theory.specs.Base.{turnsFirst}
 use Rattle.theory.specs.Demand.{GreedyTakes, PosixTakes, NoMatch}
 use Rattle.theory.proofs.Demand.{greedy-takes, posix-takes, greedy-none}
-use Rattle.grammar.specs.Grammar.{Alternation}
+use Rattle.theory.proofs.Unmoved.{eager-greedy, eager-posix}
+use Rattle.grammar.specs.Grammar.{Alternation, alternation}
+use Rattle.grammar.specs.Eager.{eagerly}
 use Rattle.grammar.specs.Limits.{Reads}
 use Rattle.grammar.specs.Refusals.{Fault}
 use Rattle.grammar.specs.Refusals as Due
 use Rattle.grammar.specs.WriteOut.{writeOut}
 use Rattle.grammar.specs.Code.Reader.{read}
 use Rattle.grammar.proofs.Right.{refuses, not-both}
+use Rattle.grammar.proofs.Eager.{eagerly-posix, unsigned-eager}
+use Rattle.grammar.proofs.Unsigned.{eagerly-reads}
 use Rattle.reader.specs.declared.Answer.{Answer}
 use Rattle.reader.specs.declared.Answer.the-variants.{Accepted, Refused}
 use Rattle.matchers.specs.declared.Spans.{Spans}
@@ -68,3 +73,13 @@ module _ {p w : List ℕ} {r : Reply} (h : Replied p w r) where
       λ e. greedy-none (writeOut a) w .0 (sym (spans-of h a reads .greedily) ∙ ap greedyOf e),
       λ n. nowhere-case (r .spans) (spans-of h a reads .greedily ∙ greedy-none (writeOut a) w .1 n),
     )
+
+    -- OF A PATTERN WITHOUT LAZY REPEATS both spans are those of the list in which every repeat takes its turns first.
+    pub cut-eager : eagerly a ≡ a → (greedyOf (r .spans) ≡ greedyBy turnsFirst (writeOut a) w) × (posixOf (r .spans) ≡ posixBy turnsFirst (writeOut a) w)
+    cut-eager u =
+        let e = unsigned-eager a u in
+        (spans-of h a reads .greedily ∙ eager-greedy (writeOut a) e w, spans-of h a reads .longest ∙ eager-posix (writeOut a) e w)
+
+    -- THE POSIX READING DOES NOT LOOK AT THE SIGNS: the span is the one handed over for the same text without the `?` of its lazy repeats.
+    pub cut-unsigned : {q : Reply} → Replied (alternation (eagerly a) []) w q → posixOf (r .spans) ≡ posixOf (q .spans)
+    cut-unsigned k = spans-of h a reads .longest ∙ sym (eagerly-posix a w) ∙ sym (spans-of k (eagerly a) (eagerly-reads p a reads) .longest)

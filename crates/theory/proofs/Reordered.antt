@@ -7,7 +7,7 @@ use mathlib.Core.List.{List}
 use native.Mathlib.Omega.{arith}
 use lib.ListN.{length}
 use lib.Dec.{ltb}
-use Rattle.theory.specs.Pattern.{Manner, eager, lazy, Re, opt, count}
+use Rattle.theory.specs.Pattern.{Manner, Re, count}
 use Rattle.theory.specs.Outcomes.{Outcome, andThen, emptyTurn, afterTurn, starOutcomes, outcomes}
 use Rattle.theory.specs.Spans.{leftmost, posix}
 use Rattle.theory.specs.Standing.{wanted, member, from, filter, standing}
@@ -65,8 +65,3 @@ module _ {r r′ : Re} (a : Reordered r r′) (w : List ℕ) where
     filter-same _ _ (from 0 (count r)) (set-wanted (reordered-same a w 0)) ∙ ap (λ n. filter (λ p. member p (wanted (outcomes r′ w 0))) (from 0 n)) (reordered-count a),
     set-some (reordered-same a w 0) (length w),
   )
-
--- An optional copy, lazy or not.
-pub opt-reordered : (how : Manner) {r r′ : Re} → Reordered r r′ → Reordered (opt eager r) (opt how r′)
-opt-reordered eager a = in-alt a same-empty
-opt-reordered lazy a = swapped a same-empty

@@ -45,7 +45,7 @@ fn pushes(a: &mut Codes, len: usize, code: u16, n: usize) -> usize
     end
 }
 
-// The end of an optional copy: or the empty sequence, which a lazy repeat has in front of it.
+// What ends an optional copy: the choice between it and the empty sequence, which a lazy repeat has in front of it already.
 fn shut(a: &mut Codes, len: usize, lazy: bool) -> usize
     ensures added { λ r. ⌜ Added (now (a .entry)) len (shutCodes (manner lazy)) (now (a .exit)) r ⌝ }
 {

@@ -61,6 +61,7 @@ starred =
     ∷ cuts (97 ∷ 123 ∷ 50 ∷ 44 ∷ 51 ∷ 125 ∷ []) (97 ∷ 97 ∷ 97 ∷ 97 ∷ []) (span 0 3) (span 0 3)  -- a{2,3}
     ∷ cuts empty-or-a (97 ∷ 97 ∷ []) (span 0 0) (span 0 2)  -- in place of paper 01's greedy 0 2
     ∷ cuts lazy-a (97 ∷ 97 ∷ []) (span 0 0) (span 0 2)
+    ∷ cuts (40 ∷ 97 ∷ 124 ∷ 97 ∷ 98 ∷ 41 ∷ 63 ∷ 63 ∷ []) (97 ∷ 98 ∷ []) (span 0 0) (span 0 2)  -- (a|ab)??
     ∷ cuts (97 ∷ 123 ∷ 49 ∷ 44 ∷ 51 ∷ 125 ∷ 63 ∷ 98 ∷ []) (97 ∷ 97 ∷ 98 ∷ []) (span 0 3) (span 0 3)  -- a{1,3}?b
     ∷ checks a|ab 256 1024 (unlike 4 2) four (97 ∷ 98 ∷ [])
     ∷ checks a|ab 255 1024 (refused 10 0) three []
