@@ -83,29 +83,29 @@ Loads v c x = (w h : ℕ) → w ≤ h → Weighs v w h → Weighs c (repeated x 
 -- A repeat x that ends at e, with the sign after it or without.
 module _ {p : List ℕ} {at v n from m : ℕ} {a b : List ℕ} where
   found-repeat : (x : Repeat) (e c : ℕ) (lazy : Bool) → lazy ≡ firstHolds (drop e p) 63 → WfRepeat x → unmarked x ≡ true → repeatText x (drop e p) ≡ drop at p → at ≤ e → e ≤ length p
-      → ((y : Re) → Rewrote p a n from b m y (repeatBy (manner lazy) x y)) → Loads v c x → Repeated p at v (signEnd e lazy) c a n from b m
+      → ((y : Re) → Rewrote p a n from b m y (repeatBy (manner lazy) x y)) → Loads v c x → Repeated p at v (signEnd p e) c a n from b m
   found-repeat x e c true q w o t f i r l =
       let (j, d) = held-here p e 63 (sym q) in
-      record { x = lazily x; formed = (w, o); text = ap (repeatText x) (sym d) ∙ t; forward = omega arith; inside = omega arith; settled = never; unsigned = never; wrote = r; load = l }
+      rw (← q) record { x = lazily x; formed = (w, o); text = ap (repeatText x) (sym d) ∙ t; forward = omega arith; inside = omega arith; settled = never; unsigned = never; wrote = r; load = l }
   found-repeat x e c false q w o t f i r l =
-      record { x = x; formed = w; text = t; forward = f; inside = i; settled = λ y. never (sym (not-once x o) ∙ y); unsigned = λ y. sym q; wrote = r; load = l }
+      rw (← q) record { x = x; formed = w; text = t; forward = f; inside = i; settled = λ y. never (sym (not-once x o) ∙ y); unsigned = λ y. sym q; wrote = r; load = l }
 
   -- A sign.
   module _ (h : at < length p) (lazy : Bool) (q : lazy ≡ firstHolds (drop (at + 1) p) 63) where
     sign-here : (x : Repeat) (k c : ℕ) → getD p at 0 ≡ k → WfRepeat x → unmarked x ≡ true → ((s : List ℕ) → repeatText x s ≡ k ∷ s)
-        → ((y : Re) → Rewrote p a n from b m y (repeatBy (manner lazy) x y)) → Loads v c x → Repeated p at v (signEnd (at + 1) lazy) c a n from b m
+        → ((y : Re) → Rewrote p a n from b m y (repeatBy (manner lazy) x y)) → Loads v c x → Repeated p at v (signEnd p (at + 1)) c a n from b m
     sign-here x k c e w o t r l = found-repeat x (at + 1) c lazy q w o (t (drop (at + 1) p) ∙ sym (byte-drop p at k h e)) (omega arith) (omega arith) r l
 
-    pub many-here : getD p at 0 ≡ 42 → Rewritten a n from (λ k. k ++ (starOf (manner lazy) ∷ [])) b m → Repeated p at v (signEnd (at + 1) lazy) v a n from b m
+    pub many-here : getD p at 0 ≡ 42 → Rewritten a n from (λ k. k ++ (starOf (manner lazy) ∷ [])) b m → Repeated p at v (signEnd p (at + 1)) v a n from b m
     many-here e r =
         sign-here many 42 v e tt refl (λ s. refl) (rewrote (manner lazy) many (λ k. k ++ (starOf (manner lazy) ∷ [])) r (λ k y x. star-codes p k y x (manner lazy))) (λ w h k x. weighs-again k x)
 
-    pub more-here : (c : ℕ) → c ≡ loadOf 2 v → getD p at 0 ≡ 43 → Rewritten a n from (atLeastCodes (manner lazy) 1) b m → Repeated p at v (signEnd (at + 1) lazy) c a n from b m
+    pub more-here : (c : ℕ) → c ≡ loadOf 2 v → getD p at 0 ≡ 43 → Rewritten a n from (atLeastCodes (manner lazy) 1) b m → Repeated p at v (signEnd p (at + 1)) c a n from b m
     unfolding chain
     more-here c d e r =
         sign-here more 43 c e tt refl (λ s. refl) (rewrote (manner lazy) more (atLeastCodes (manner lazy) 1) r (λ k y x. atLeast-codes p k y x (manner lazy) 1)) (λ w h k x. weighs-times 2 c d k x)
 
-    pub maybe-here : getD p at 0 ≡ 63 → Rewritten a n from (betweenCodes (manner lazy) 0 1) b m → Repeated p at v (signEnd (at + 1) lazy) v a n from b m
+    pub maybe-here : getD p at 0 ≡ 63 → Rewritten a n from (betweenCodes (manner lazy) 0 1) b m → Repeated p at v (signEnd p (at + 1)) v a n from b m
     unfolding chain optional
     maybe-here e r =
         sign-here maybe 63 v e tt refl (λ s. refl) (rewrote (manner lazy) maybe (betweenCodes (manner lazy) 0 1) r (λ k y x. between-codes p k y x (manner lazy) 0 1)) (λ w h k x. weighs-again k x)
@@ -113,24 +113,24 @@ module _ {p : List ℕ} {at v n from m : ℕ} {a b : List ℕ} where
   -- A count that was found.
   module _ (h : at < length p) (brace : getD p at 0 ≡ 123) {e : ℕ} (next : Onward p (at + 1) e) (lazy : Bool) (q : lazy ≡ firstHolds (drop e p) 63) where
     counted : (x : Repeat) (c : ℕ) → readCount (drop (at + 1) p) ≡ found x (drop e p) → ((y : Re) → Rewrote p a n from b m y (repeatBy (manner lazy) x y)) → Loads v c x
-        → Repeated p at v (signEnd e lazy) c a n from b m
+        → Repeated p at v (signEnd p e) c a n from b m
     counted x c f r l =
         let i : CountIs (123 ∷ drop (at + 1) p) x (drop e p) = subst (Sound (CountIs (123 ∷ drop (at + 1) p))) f (count-sound (drop (at + 1) p)) in
         found-repeat x e c lazy q (i .0) (i .1) (i .2 ∙ sym (byte-drop p at 123 h brace)) (omega (arith, next .forward)) (next .inside) r l
 
     pub exactly-here : (d : Digits) (t c : ℕ) → readCount (drop (at + 1) p) ≡ found (exactly d) (drop e p) → digitsValue d ≡ t → c ≡ loadOf t v → Rewritten a n from (exactlyCodes t) b m
-        → Repeated p at v (signEnd e lazy) c a n from b m
+        → Repeated p at v (signEnd p e) c a n from b m
     exactly-here d t c f g k r =
         counted (exactly d) c f (rewrote (manner lazy) (exactly d) (exactlyCodes t) r (λ k y x. rw g (exactly-codes p k y x t))) (λ w h i x. rw g (weighs-times t c k i x))
 
     pub atLeast-here : (d : Digits) (t c : ℕ) → readCount (drop (at + 1) p) ≡ found (atLeast d) (drop e p) → digitsValue d ≡ t → c ≡ loadOf (t + 1) v → Rewritten a n from (atLeastCodes (manner lazy) t) b m
-        → Repeated p at v (signEnd e lazy) c a n from b m
+        → Repeated p at v (signEnd p e) c a n from b m
     atLeast-here d t c f g k r =
         counted (atLeast d) c f (rewrote (manner lazy) (atLeast d) (atLeastCodes (manner lazy) t) r (λ k y x. rw g (atLeast-codes p k y x (manner lazy) t)))
         (λ w h i x. rw g (let s : t + 1 ≡ suc t = omega arith in weighs-times (suc t) c (k ∙ ap (λ u. loadOf u v) s) i x))
 
     pub between-here : (d d′ : Digits) (t u c : ℕ) → readCount (drop (at + 1) p) ≡ found (between d d′) (drop e p) → digitsValue d ≡ t → digitsValue d′ ≡ u → c ≡ loadOf u v
-        → Rewritten a n from (betweenCodes (manner lazy) t (u - t)) b m → Repeated p at v (signEnd e lazy) c a n from b m
+        → Rewritten a n from (betweenCodes (manner lazy) t (u - t)) b m → Repeated p at v (signEnd p e) c a n from b m
     between-here d d′ t u c f g g′ k r =
         counted (between d d′) c f (rewrote (manner lazy) (between d d′) (betweenCodes (manner lazy) t (u - t)) r (λ k y x. rw (g, g′) (between-codes p k y x (manner lazy) t (u - t))))
         (λ w h i x. rw g′ (weighs-times u c k i x))

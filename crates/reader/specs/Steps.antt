@@ -88,8 +88,8 @@ abbrev pub loadOf : ℕ → ℕ → ℕ
 loadOf n v = cond (eqb v aboveLimit) aboveLimit (min aboveLimit (times n v))
 
 -- The place after a repeat that ends at e, and after the sign that makes it lazy.
-abbrev pub signEnd : ℕ → Bool → ℕ
-signEnd e lazy = cond lazy (e + 1) e
+abbrev pub signEnd : List ℕ → ℕ → ℕ
+signEnd p e = cond (firstHolds (drop e p) 63) (e + 1) e
 
 -- The brackets g and one more, at the place q.
 abbrev pub oneMore : Brackets → ℕ → Brackets

@@ -172,11 +172,13 @@ fn push_if_more(a: &mut Codes, len: usize, w: usize) -> usize
 }
 
 // The place after a repeat that ends at `at`, and after the sign that makes it lazy.
-fn past(at: usize, lazy: bool) -> usize
-    requires { ⌜ at ≤ maxBytes ⌝ }
-    ensures { λ r. ⌜ r ≡ signEnd at lazy ⌝ }
+fn past(s: &[u8], at: usize) -> usize
+    ensures { λ r. ⌜ r ≡ signEnd (now (s .entry)) at ⌝ }
 {
-    if lazy { at + 1 } else { at }
+    if scanner::has_byte(s, at, SIGN) {
+        return at + 1;
+    }
+    at
 }
 
 // The count after an atom that weighs `weight` and whose codes begin at `from`.
@@ -188,19 +190,18 @@ fn counted(s: &[u8], at: usize, weight: usize, a: &mut Codes, len: usize, from: 
     match count {
         Count::Exactly { times, next } => {
             // nothing is optional here, so the sign has no effect
-            let lazy = scanner::has_byte(s, next, SIGN);
             let n = tokens::exactly(a, len, from, times);
-            found(past(next, lazy), load(times, weight), n)
+            found(past(s, next), load(times, weight), n)
         }
         Count::AtLeast { times, next } => {
             let lazy = scanner::has_byte(s, next, SIGN);
             let n = tokens::at_least(a, len, from, times, lazy);
-            found(past(next, lazy), load(times + 1, weight), n)
+            found(past(s, next), load(times + 1, weight), n)
         }
         Count::Between { least, most, next } => {
             let lazy = scanner::has_byte(s, next, SIGN);
             let n = tokens::between(a, len, from, least, most, lazy);
-            found(past(next, lazy), load(most, weight), n)
+            found(past(s, next), load(most, weight), n)
         }
         Count::NoCount => refused(5, at, len),
     }
@@ -222,15 +223,15 @@ fn repeat(s: &[u8], at: usize, weight: usize, a: &mut Codes, len: usize, from: u
     let lazy = scanner::has_byte(s, next, SIGN);
     if b == b'*' {
         let n = tokens::star(a, len, from, lazy);
-        return found(past(next, lazy), weight, n);
+        return found(past(s, next), weight, n);
     }
     if b == b'+' {
         let n = tokens::at_least(a, len, from, 1, lazy);
-        return found(past(next, lazy), load(2, weight), n);
+        return found(past(s, next), load(2, weight), n);
     }
     if b == b'?' {
         let n = tokens::between(a, len, from, 0, 1, lazy);
-        return found(past(next, lazy), weight, n);
+        return found(past(s, next), weight, n);
     }
     found(at, weight, len)
 }

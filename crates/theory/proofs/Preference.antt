@@ -13,7 +13,7 @@ use lib.ListN.{length, drop}
 use lib.Dec.{T, eqb, eqb→eq, eqb-refl, ltb, ltb→lt, lt→ltb}
 use Rattle.theory.specs.Pattern.{Manner, eager, lazy, Re, empty, leaf, seq, alt, star, field}
 use Rattle.theory.specs.Outcomes.{Outcome, endsAt, wants, andThen, when, leafOutcomes, thenLeave, outcomes}
-use Rattle.theory.specs.Base.{baseStar, base}
+use Rattle.theory.specs.Base.{baseStar, listBy, base}
 use Rattle.theory.specs.Standing.{someIs}
 use Rattle.theory.specs.Matching.{Matches}
 use Rattle.theory.specs.Preference.{ByLeast, AltWay, AltLess, left, right, left-right, SeqWay, seqEnd, SeqLess, first, second, StarWay, starEnd, StarLess, turn, rest, more, less, Prefer}
@@ -154,7 +154,7 @@ module _ (w : List ℕ) where
 
   -- THE ENDS ARE IN THE ORDER OF PREFERENCE.
   pub in-order : (r : Re) (i : ℕ) → Ranked r i
-  unfolding base Prefer
+  unfolding listBy Prefer
   in-order empty i = ranked {r = empty} (ranks-one i .sorted)
   in-order (leaf p s) i = ranked {r = leaf p s} (leaf-one p s i (drop i w))
   in-order (alt x y) i =

@@ -12,7 +12,7 @@ use lib.ListN.{length}
 use lib.Dec.{T, eqb, eqb-refl, ltb, lt→ltb}
 use Rattle.theory.specs.Pattern.{Manner, eager, Re, empty, leaf, seq, alt, star, field, count}
 use Rattle.theory.specs.Outcomes.{Outcome, endsAt, wants, andThen, when, afterTurn, thenLeave, starOutcomes, Lists, outcomes}
-use Rattle.theory.specs.Base.{baseStar, base, nullable, Plain, bare, turnsFirstStar, turnsFirst, Eager}
+use Rattle.theory.specs.Base.{baseStar, listBy, base, nullable, Plain, bare, turnsFirstStar, turnsFirst, Eager}
 use Rattle.theory.specs.Matching.{Matches, m-empty, m-leaf, m-seq, m-left, m-right, m-done, m-again, m-field}
 use Rattle.theory.specs.Spans.{firstEnd, greatestEnd, leftmost, greedyBy, posixBy, greedy, posix}
 use Rattle.theory.specs.Standing.{fronts, wanted, firstIs, someIs, member, once, from, filter, setOf, standingBy, standing}
@@ -65,7 +65,7 @@ module _ (how : Manner) {f g : ℕ → List (Outcome ℕ)} where
 
 -- THE SET OF OUTCOMES IS AS IT WAS.
 pub base-same : (r : Re) (w : List ℕ) (i : ℕ) → Same (outcomes r w i) (base r w i)
-unfolding outcomes base
+unfolding outcomes listBy
 base-same empty w i = (λ o t. t, λ o t. t)
 base-same (leaf p s) w i = (λ o t. t, λ o t. t)
 base-same (seq x y) w i = same-then (base-same x w i) (base-same y w)
@@ -131,7 +131,7 @@ module _ (w : List ℕ) where
 
   -- THE LIST OF A PLAIN PATTERN IS AS IT WAS.
   pub plain-base : (r : Re) → Plain r → (i : ℕ) → outcomes r w i ≡ base r w i
-  unfolding outcomes base Plain
+  unfolding outcomes listBy Plain
   plain-base empty p i = refl
   plain-base (leaf q s) p i = refl
   plain-base (seq x y) p i = λ t. andThen (plain-base x (p .0) i t) (λ k. plain-base y (p .1) k t)
@@ -171,7 +171,7 @@ eager-star f (suc d) i = λ t. andThen (f i) (λ k. afterTurn i k (eager-star f 
 
 -- THE LIST OF A PATTERN WITHOUT LAZY REPEATS IS AS IT WAS,
 pub eager-list : (r : Re) → Eager r → (w : List ℕ) (i : ℕ) → outcomes r w i ≡ turnsFirst r w i
-unfolding outcomes turnsFirst Eager
+unfolding outcomes listBy Eager
 eager-list empty e w i = refl
 eager-list (leaf q s) e w i = refl
 eager-list (seq x y) e w i = λ t. andThen (eager-list x (e .0) w i t) (λ k. eager-list y (e .1) w k t)

@@ -8,21 +8,24 @@ use mathlib.Core.List.{List, [], _∷_, _++_}
 use lib.ListN.{length, drop}
 use lib.Dec.{ltb}
 use Rattle.theory.specs.Pattern.{Manner, eager, Re, empty, leaf, seq, alt, star, field}
-use Rattle.theory.specs.Outcomes.{Outcome, endsAt, andThen, when, leafOutcomes, afterTurn, thenLeave}
+use Rattle.theory.specs.Outcomes.{Outcome, endsAt, andThen, when, leafOutcomes, afterTurn, thenLeave, Lists}
 
 -- r*: r's list "with each 'ends at k' replaced by r*'s list from k if k is above i and dropped if k is i; then 'ends at i'"; r*? has that end first.
 unfoldable pub baseStar : Manner → (ℕ → List (Outcome ℕ)) → ℕ → ℕ → List (Outcome ℕ)
 baseStar how f zero i = []
 baseStar how f (suc n) i = thenLeave how (andThen (f i) (λ k. when (ltb i k) (baseStar how f n k))) i
 
--- The other parts are as in `outcomes`.
-unfoldable pub base : Re → List ℕ → ℕ → List (Outcome ℕ)
-base empty w i = endsAt i ∷ []
-base (leaf p s) w i = leafOutcomes p s i (drop i w)
-base (seq x y) w i = andThen (base x w i) (base y w)
-base (alt x y) w i = base x w i ++ base y w i
-base (star how x) w i = baseStar how (base x w) (suc (length w)) i
-base (field f x) w i = base x w i
+-- A part's list where r* has the list `loop` makes of r's lists; the other parts are as in `outcomes`.
+unfoldable pub listBy : (Manner → (ℕ → List (Outcome ℕ)) → ℕ → ℕ → List (Outcome ℕ)) → Lists
+listBy loop empty w i = endsAt i ∷ []
+listBy loop (leaf p s) w i = leafOutcomes p s i (drop i w)
+listBy loop (seq x y) w i = andThen (listBy loop x w i) (listBy loop y w)
+listBy loop (alt x y) w i = listBy loop x w i ++ listBy loop y w i
+listBy loop (star how x) w i = loop how (listBy loop x w) (suc (length w)) i
+listBy loop (field f x) w i = listBy loop x w i
+
+abbrev pub base : Lists
+base = listBy baseStar
 
 -- The part matches the empty string.
 unfoldable pub nullable : Re → Bool
@@ -56,13 +59,8 @@ unfoldable pub turnsFirstStar : (ℕ → List (Outcome ℕ)) → ℕ → ℕ →
 turnsFirstStar f zero i = []
 turnsFirstStar f (suc n) i = andThen (f i) (λ k. afterTurn i k (turnsFirstStar f n k)) ++ (endsAt i ∷ [])
 
-unfoldable pub turnsFirst : Re → List ℕ → ℕ → List (Outcome ℕ)
-turnsFirst empty w i = endsAt i ∷ []
-turnsFirst (leaf p s) w i = leafOutcomes p s i (drop i w)
-turnsFirst (seq x y) w i = andThen (turnsFirst x w i) (turnsFirst y w)
-turnsFirst (alt x y) w i = turnsFirst x w i ++ turnsFirst y w i
-turnsFirst (star how x) w i = turnsFirstStar (turnsFirst x w) (suc (length w)) i
-turnsFirst (field f x) w i = turnsFirst x w i
+abbrev pub turnsFirst : Lists
+turnsFirst = listBy (λ how. turnsFirstStar)
 
 -- A written-out pattern without r*?.
 unfoldable pub Eager : Re → Type 0

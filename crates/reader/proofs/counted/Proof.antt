@@ -1,5 +1,6 @@
 -- `counted` finds the count after an atom, with its sign or without, or its fault.
 -- Assumes nothing.
+use mathlib.Core.Path.{refl}
 use native.Mathlib.Omega.{arith}
 use Rattle.reader.specs.Steps.{found-part, found-fault}
 use Rattle.reader.proofs.Begins.{fault-count}
@@ -9,31 +10,10 @@ use borrow.Author.Needs.{needs}
 use Rattle.reader.proofs.counted.Statement.{statement}
 use Rattle.reader.proofs.counted.Tie as tie
 
-past-requires : tie.Need-past-requires
-past-requires c κs =
-    let c4 = c .before .before .before .before in
-    let c6 = c4 .before .before in
-    let (d, f, g, o) = count-exactly _ _ _ (c4 .count .given .1) (c6 .read-count .ensures) in
-    omega (arith, o .inside, c6 .before .before .pre .0 .begin .short)
-
-past-requires-2 : tie.Need-past-requires-2
-past-requires-2 c κs =
-    let c4 = c .before .before .before .before in
-    let c6 = c4 .before .before in
-    let (d, f, g, o) = count-atLeast _ _ _ (c4 .count2 .given .1) (c6 .read-count .ensures) in
-    omega (arith, o .inside, c6 .before .before .pre .0 .begin .short)
-
-past-requires-3 : tie.Need-past-requires-3
-past-requires-3 c κs =
-    let c4 = c .before .before .before .before in
-    let c6 = c4 .before .before in
-    let (d, d′, f, g, g′, o) = count-between _ _ _ (c4 .count3 .given .1) (c6 .read-count .ensures) in
-    omega (arith, o .inside, c6 .before .before .pre .0 .begin .short)
-
 load-requires : tie.Need-load-requires
 load-requires c κs =
-    let c5 = c .before .before .before .before .before in
-    omega (arith, exactly-63 _ _ _ (c5 .count .given .1) (c5 .before .before .read-count .ensures))
+    let c4 = c .before .before .before .before in
+    omega (arith, exactly-63 _ _ _ (c4 .count .given .1) (c4 .before .before .read-count .ensures))
 
 add-load : tie.Need-add-load
 add-load c =
@@ -53,11 +33,10 @@ load-requires-3 c κs =
 returns : tie.Need-returns
 returns c =
     let c3 = c .before .before .before in
-    let c7 = c3 .before .before .before .before in
-    let s = c7 .before .before .before .before in
-    let (d, f, g, o) = count-exactly _ _ _ (c7 .count .given .1) (c7 .before .before .read-count .ensures) in
-    rw (c .found .ensures, c .before .before .past .ensures)
-    (found-part (exactly-here (s .pre .1) (s .pre .2) o _ (c3 .before .before .has-byte .ensures) d _ _ f g (c .before .load .ensures) (c3 .exactly .ensures)))
+    let c6 = c3 .before .before .before in
+    let s = c6 .before .before .before .before in
+    let (d, f, g, o) = count-exactly _ _ _ (c6 .count .given .1) (c6 .before .before .read-count .ensures) in
+    rw (c .found .ensures, c .before .before .past .ensures) (found-part (exactly-here (s .pre .1) (s .pre .2) o _ refl d _ _ f g (c .before .load .ensures) (c3 .exactly .ensures)))
 
 returns-2 : tie.Need-returns-2
 returns-2 c =
@@ -66,7 +45,7 @@ returns-2 c =
     let s = c7 .before .before .before .before in
     let (d, f, g, o) = count-atLeast _ _ _ (c7 .count2 .given .1) (c7 .before .before .read-count .ensures) in
     rw (c .found2 .ensures, c .before .before .past2 .ensures)
-    (found-part (atLeast-here (s .pre .1) (s .pre .2) o _ (c3 .before .before .has-byte2 .ensures) d _ _ f g (c .before .load2 .ensures) (c3 .at-least .ensures)))
+    (found-part (atLeast-here (s .pre .1) (s .pre .2) o _ (c3 .before .before .has-byte .ensures) d _ _ f g (c .before .load2 .ensures) (c3 .at-least .ensures)))
 
 returns-3 : tie.Need-returns-3
 returns-3 c =
@@ -75,7 +54,7 @@ returns-3 c =
     let s = c7 .before .before .before .before in
     let (d, d′, f, g, g′, o) = count-between _ _ _ (c7 .count3 .given .1) (c7 .before .before .read-count .ensures) in
     rw (c .found3 .ensures, c .before .before .past3 .ensures)
-    (found-part (between-here (s .pre .1) (s .pre .2) o _ (c3 .before .before .has-byte3 .ensures) d d′ _ _ _ f g g′ (c .before .load3 .ensures) (c3 .between .ensures)))
+    (found-part (between-here (s .pre .1) (s .pre .2) o _ (c3 .before .before .has-byte2 .ensures) d d′ _ _ _ f g g′ (c .before .load3 .ensures) (c3 .between .ensures)))
 
 returns-4 : tie.Need-returns-4
 returns-4 c =
@@ -92,20 +71,19 @@ counted-spec =
     (λ c. search needs)
     (λ c κs. search needs)
     (λ c κs. search needs)
-    past-requires
     load-requires
     (λ c κs. search needs)
     (λ c. search needs)
     (λ c κs. search needs)
     (λ c κs. search needs)
-    past-requires-2
+    (λ c κs. search needs)
     add-load
     load-requires-2
     (λ c κs. search needs)
     (λ c. search needs)
     (λ c κs. search needs)
     (λ c κs. search needs)
-    past-requires-3
+    (λ c κs. search needs)
     load-requires-3
     (λ c κs. search needs)
     (λ c. search needs)
