@@ -7,7 +7,7 @@ use mathlib.Core.List.{List, [], _∷_, _++_, map}
 use lib.ListN.{replicate}
 use Rattle.theory.specs.Pattern.{eager, lazy, Re, empty, leaf, seq, alt, star, field, opt, count, number, has}
 use Rattle.theory.specs.Standing.{from}
-use Rattle.grammar.specs.Grammar.{plain, digit, Item, range, named, one, more, exactly, atLeast, between, lazily, kind, inside}
+use Rattle.grammar.specs.Grammar.{plain, digit, Item, range, named, Digits, one, more, exactly, atLeast, between, lazily, kind, inside}
 use Rattle.grammar.specs.Limits.{heaviest, weight}
 use Rattle.grammar.specs.Sets.{setTable, inItem, inClass}
 use Rattle.grammar.specs.Brackets.{brackets, ninth}
@@ -136,7 +136,7 @@ pub one-or-more : (x : Re) → repeatOf more x ≡ seq x (star eager x)
 unfolding chain
 one-or-more x = refl
 
--- r+? is r and then r*?, r{2,}? two copies and then r*?; in r{2}? nothing is optional.
+-- r+? is r and then r*?, r{2,}? two copies and then r*?; in r{m}? nothing is optional.
 pub one-or-more-lazily : (x : Re) → repeatOf (lazily more) x ≡ seq x (star lazy x)
 unfolding chain
 one-or-more-lazily x = refl
@@ -145,8 +145,8 @@ pub at-least-lazily : (x : Re) → repeatOf (lazily (atLeast (one 50))) x ≡ se
 unfolding chain
 at-least-lazily x = refl
 
-pub exactly-lazily : (x : Re) → repeatOf (lazily (exactly (one 50))) x ≡ repeatOf (exactly (one 50)) x
-exactly-lazily x = refl
+pub exactly-lazily : (m : Digits) (x : Re) → repeatOf (lazily (exactly m)) x ≡ repeatOf (exactly m) x
+exactly-lazily m x = refl
 
 -- The most parts: ((..(a?)?..)?){0,63} with 16 brackets, and another such part with `?` for the count. The bound of `nodes-within` is reached but for
 -- eight: the brackets of the other part are no fields.

@@ -7,11 +7,11 @@ use mathlib.Core.List.{List, [], _∷_, _++_, append-nil}
 use native.Mathlib.Omega.{arith}
 use lib.ListN.{length, take, replicate}
 use lib.Seq.{take-append-le, take-length}
-use Rattle.grammar.specs.Grammar.{once, Alternation, last, nothing, group, alternation, WfAlternation}
-use Rattle.grammar.specs.Limits.{depth, Reads}
+use Rattle.grammar.specs.Grammar.{Repeat, once, lazily, Alternation, last, nothing, Atom, group, sign, kind, alternation, WfAlternation}
+use Rattle.grammar.specs.Limits.{maxBytes, depth, Reads}
 use Rattle.grammar.specs.Before.{Before, after, text, opens, WfBefore}
 use Rattle.grammar.specs.Code.Reader.{Gathered, whole, within, gather, read}
-use Rattle.grammar.specs.Refusals.{Answer, accepted, refused, Fault, tooLong, wrong, tooHeavy, Right}
+use Rattle.grammar.specs.Refusals.{Answer, accepted, refused, unreadySign, unreadyCount, Fault, tooLong, wrong, tooHeavy, Right}
 use Rattle.grammar.proofs.Sound.{GatherOk, gather-ok, opens-max, read-right}
 use Rattle.grammar.proofs.Unique.{right-unique}
 use Rattle.grammar.proofs.Place.{text-leads}
@@ -51,6 +51,17 @@ not-both p t n q h k =
     let a : read p ≡ accepted t = right-unique p (accepted t) h in
     let b : read p ≡ refused n q = right-unique p (refused n q) k in
     let z : _≡_ {A = ℕ} 0 1 = cc in omega arith
+
+-- "A `?` after a repeat is thus legal once; a further repeat sign is still 2, at its place": so is each sign after a lazy repeat, and a `{`.
+module _ (o : Before) (a : Atom) (r : Repeat) (w : WfBefore (after o a (lazily r))) (s : List ℕ) where
+  abbrev Further : ℕ → Type 0
+  Further b = let p = text (after o a (lazily r)) (b ∷ s) in length p ≤ maxBytes → read p ≡ refused 2 (length (text (after o a (lazily r)) []))
+
+  pub further-sign : (b : ℕ) (x : Repeat) → kind b ≡ sign x → Further b
+  further-sign b x k h = refuses _ 2 _ .1 (wrong h (after o a (lazily r)) (b ∷ s) w refl (unreadySign b x s k refl (λ e. refl)) refl)
+
+  pub further-count : Further 123
+  further-count h = refuses _ 2 _ .1 (wrong h (after o a (lazily r)) (123 ∷ s) w refl (unreadyCount s refl) refl)
 
 -- A beginning is the beginning of a pattern of the grammar, no deeper than 16: its brackets can be closed at once.
 pub completed : (o : Before) → WfBefore o → (t : Alternation) × WfAlternation t × (depth t ≤ 16) × (alternation t [] ≡ text o (replicate (opens o) 41))
