@@ -72,7 +72,7 @@ both : (a b : Bool) → a && b ≡ true → T a
 both true b e = tt
 both false b e = let z : _≡_ {A = ℕ} 0 1 = cc in absurd (omega arith)
 
-count-sum : (m n : Digits) → WfRepeat (between m n) → digitsValue m + (digitsValue n - digitsValue m) ≡ digitsValue n
+pub count-sum : (m n : Digits) → WfRepeat (between m n) → digitsValue m + (digitsValue n - digitsValue m) ≡ digitsValue n
 count-sum m n v = omega (arith, leb→le (digitsValue m) (digitsValue n) (both (leb (digitsValue m) (digitsValue n)) (leb (digitsValue n) 63) (v .2)))
 
 count-repeat : (how : Manner) (r : Repeat) (x : Re) (w : ℕ) → WfRepeat r → count x ≤ w → count (repeatBy how r x) ≤ repeated r w

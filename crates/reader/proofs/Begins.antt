@@ -21,6 +21,7 @@ use Rattle.grammar.proofs.Texts.{KindOk, kind-ok, ordinary-kind}
 use Rattle.grammar.proofs.Sound.{opens-max, no-class, no-count}
 use Rattle.grammar.proofs.Unique.{afterSequence, afterAlternation, opens-sequence, text-sequence, text-alternation}
 use Rattle.grammar.proofs.Place.{text-length, sequence-formed, alternation-formed, opens-alternation}
+use Rattle.reader.specs.declared.Size.{Size}
 use Rattle.reader.specs.declared.Brackets.{Brackets}
 use Rattle.reader.specs.Steps.{isSpecial, isRepeat, NoRepeat, NoSign, Beginning, Begun, Ready, Alternated, Sequenced, Atomic, Repeated}
 
@@ -65,7 +66,7 @@ module _ {p : List ℕ} {at d : ℕ} where
   depth-max b = omega (arith, opens-max (b .begin .o) (b .begin .formed), b .deep)
 
   -- The beginnings that a `|`, a `(` and an atom with its repeat make.
-  pub begun-bar : {e c n m : ℕ} {f g : List ℕ} {u w : Brackets} → Begun p at d → Sequenced p at d e c f n g m u w → e < length p → getD p e 0 ≡ 124 → Begun p (e + 1) d
+  pub begun-bar : {e n m : ℕ} {c : Size} {f g : List ℕ} {u w : Brackets} → Begun p at d → Sequenced p at d e c f n g m u w → e < length p → getD p e 0 ≡ 124 → Begun p (e + 1) d
   begun-bar {e} b r h x =
       record {
         begin = record {
@@ -95,7 +96,7 @@ module _ {p : List ℕ} {at d : ℕ} where
         unsigned = never;
       }
 
-  pub ready-atom : {e c n m : ℕ} {f g : List ℕ} {u w : Brackets} → Begun p at d → Atomic p at d e c f n g m u w → Ready p e
+  pub ready-atom : {e n m : ℕ} {c : Size} {f g : List ℕ} {u w : Brackets} → Begun p at d → Atomic p at d e c f n g m u w → Ready p e
   ready-atom b a =
       record {
         begin = record {
@@ -108,7 +109,7 @@ module _ {p : List ℕ} {at d : ℕ} where
         ready-here = refl;
       }
 
-  pub begun-part : {e c n m k i v from : ℕ} {f g h : List ℕ} {u w : Brackets} → Begun p at d → Atomic p at d e c f n g m u w → Repeated p e c k v g m from h i → Begun p k d
+  pub begun-part : {e n m k i from : ℕ} {c v : Size} {f g h : List ℕ} {u w : Brackets} → Begun p at d → Atomic p at d e c f n g m u w → Repeated p e c k v g m from h i → Begun p k d
   begun-part b a r =
       record {
         begin = record {
@@ -175,7 +176,7 @@ module _ {p : List ℕ} {at d : ℕ} (b : Begun p at d) (i : at < length p) wher
   pub fault-deep : getD p at 0 ≡ 40 → d ≡ 16 → Fault p 7 at
   fault-deep e h = begin-fault (b .begin) 7 (40 ∷ drop (at + 1) p) (byte-drop p at 40 i e) (tooDeep (drop (at + 1) p) (b .deep ∙ h))
 
-  pub fault-open : {e c n m : ℕ} {f g : List ℕ} {u w : Brackets} → getD p at 0 ≡ 40 → d ≢ 16 → Alternated p (at + 1) (d + 1) e c f n g m u w → e ≡ length p → Fault p 6 e
+  pub fault-open : {e n m : ℕ} {c : Size} {f g : List ℕ} {u w : Brackets} → getD p at 0 ≡ 40 → d ≢ 16 → Alternated p (at + 1) (d + 1) e c f n g m u w → e ≡ length p → Fault p 6 e
   fault-open {e} x n t h =
       let o : Before = afterAlternation (opened (b .begin .o)) (t .t) in
       let s : text o [] ≡ p = text-alternation (t .t) (opened (b .begin .o)) [] ∙ (rw (← drop-all p e h, t .text, ← byte-drop p at 40 i x) (b .begin .split)) in

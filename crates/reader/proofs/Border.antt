@@ -27,6 +27,11 @@ use Rattle.arrays.specs.declared.Pattern.{Pattern}
 use Rattle.arrays.specs.Decoded.{decode, blank}
 use Rattle.arrays.specs.Finished.{Finished}
 use Rattle.arrays.specs.Finished as Arrays
+use Rattle.lengths.specs.Lengths.{limit}
+use Rattle.lengths.specs.Code.{meaning, lengths}
+use Rattle.lengths.specs.declared.Lengths.{Lengths}
+use Rattle.lengths.proofs.Accepted.{counted-whole}
+use Rattle.reader.specs.declared.Size.{Size}
 use Rattle.reader.specs.declared.Part.{Part}
 use Rattle.reader.specs.declared.Part.the-variants.{Read, Refused}
 use Rattle.reader.specs.declared.Answer.{Answer}
@@ -34,19 +39,23 @@ use Rattle.reader.specs.declared.Answer.the-variants.{Accepted}
 use Rattle.reader.specs.declared.Answer.the-variants as Answer
 use Rattle.reader.specs.declared.Brackets.{Brackets}
 use Rattle.reader.specs.Reading.{noBrackets, bracketsDue, ReadRight, accepted}
-use Rattle.reader.specs.Steps.{andMore, Weighs, light, heavy, Alternated, AlternationRead, found-part, found-fault, answerBy}
+use Rattle.reader.specs.Steps.{andMore, Weighs, light, heavy, Alternated, AlternationRead, found-part, found-fault, answerBy, lengthsBy}
 use Rattle.grammar.proofs.Openings.{openings-count}
 use Rattle.reader.proofs.Passed.{all-brackets}
 use Rattle.reader.proofs.Begins.{byte-drop, drop-all}
 
-pub read-long : (p : List ℕ) (x : Pattern) → 255 < length p → x ≡ blank → (g : Brackets) → g ≡ noBrackets → ReadRight p (record { answer = Answer.Refused 1 255; pattern = x; brackets = g })
-read-long p x h e g z = record { answer = Due.refused 1 255; right = tooLong h refl refl; means = refl; beside = e; counted = z }
+-- What stands beside a refusal says nothing.
+abbrev Bare : Pattern → Brackets → Lengths → Type 0
+Bare x g l = (x ≡ blank) × (g ≡ noBrackets) × (meaning l ≡ (0, limit 0))
+
+pub read-long : (p : List ℕ) (x : Pattern) (g : Brackets) (l : Lengths) → 255 < length p → Bare x g l → ReadRight p (record { answer = Answer.Refused 1 255; pattern = x; brackets = g; lengths = l })
+read-long p x g l h e = record { answer = Due.refused 1 255; right = tooLong h refl refl; means = refl; beside = e .0; counted = e .1; measured = e .2 }
 
 -- The array before anything is written.
 pub holds-none : HoldsCodes (replicate 2815 0) 0 []
 holds-none = record { size = length-replicate {A = ℕ} 2815 0; used = refl; same = refl }
 
-module _ {p a b : List ℕ} {n m e c : ℕ} (short : length p ≤ 255) {g : Brackets} (t : Alternated p 0 0 e c a n b m noBrackets g) where
+module _ {p a b : List ℕ} {n m e : ℕ} {c : Size} (short : length p ≤ 255) {g : Brackets} (t : Alternated p 0 0 e c a n b m noBrackets g) where
   -- It ends before a `)` that has no `(`,
   pub found-close : e < length p → Fault p 2 e
   found-close h =
@@ -65,24 +74,24 @@ module _ {p a b : List ℕ} {n m e c : ℕ} (short : length p ≤ 255) {g : Brac
     whole-text : alternation (t .t) [] ≡ p
     whole-text = ap (alternation (t .t)) (sym (drop-all p e at-end)) ∙ t .text
 
-    too-heavy : {w : ℕ} → Weighs c w (heaviest (t .t)) → w ≤ heaviest (t .t) → 64 < c → 64 < heaviest (t .t)
+    too-heavy : {w : ℕ} → Weighs (c .weight) w (heaviest (t .t)) → w ≤ heaviest (t .t) → 64 < c .weight → 64 < heaviest (t .t)
     too-heavy (light x y z) k h = absurd (omega arith)
     too-heavy (heavy x y) k h = omega arith
 
-    pub found-heavy : 64 < c → Fault p 8 e
+    pub found-heavy : 64 < c .weight → Fault p 8 e
     found-heavy h =
-        tooHeavy short (t .t) (t .formed) (omega (arith, t .shallow)) whole-text (too-heavy (t .load) (weight-heaviest (t .t)) h) refl at-end
+        tooHeavy short (t .t) (t .formed) (omega (arith, t .shallow)) whole-text (too-heavy (t .size .load) (weight-heaviest (t .t)) h) refl at-end
 
-    not-heavy : {w : ℕ} → Weighs c w (heaviest (t .t)) → c ≤ 64 → heaviest (t .t) ≤ 64
+    not-heavy : {w : ℕ} → Weighs (c .weight) w (heaviest (t .t)) → c .weight ≤ 64 → heaviest (t .t) ≤ 64
     not-heavy (light x y z) h = z
     not-heavy (heavy x y) h = absurd (omega arith)
 
     -- or within the limits.
-    pub found-tree : c ≤ 64 → Reads p (t .t)
-    found-tree h = record { text = whole-text; formed = t .formed; short = short; shallow = omega (arith, t .shallow); light = not-heavy (t .load) h }
+    pub found-tree : c .weight ≤ 64 → Reads p (t .t)
+    found-tree h = record { text = whole-text; formed = t .formed; short = short; shallow = omega (arith, t .shallow); light = not-heavy (t .size .load) h }
 
     -- Its codes all fit, so the arrays made of them are the written-out pattern.
-    pub found-written : c ≤ 64 → a ≡ replicate 2815 0 → n ≡ 0 → (x : Pattern) → Finished p (take m b) x → Arrays.HoldsPattern x (writeOut (t .t))
+    pub found-written : c .weight ≤ 64 → a ≡ replicate 2815 0 → n ≡ 0 → (x : Pattern) → Finished p (take m b) x → Arrays.HoldsPattern x (writeOut (t .t))
     unfolding writeOut
     found-written h z y x f =
         let r = found-tree h in
@@ -93,7 +102,7 @@ module _ {p a b : List ℕ} {n m e c : ℕ} (short : length p ≤ 255) {g : Brac
         f (shape (t .t) 0) (ap (map (tokenOf p)) codes ∙ t .wrote .are) (omega (arith, number-count 0 (shape (t .t) 0), leaves-64 p (t .t) r))
 
     -- Its brackets are all that were passed.
-    pub found-brackets : c ≤ 64 → g ≡ bracketsDue (Due.accepted (t .t))
+    pub found-brackets : c .weight ≤ 64 → g ≡ bracketsDue (Due.accepted (t .t))
     unfolding ninth
     found-brackets h =
         let d : drop e p ≡ [] = drop-all p e at-end in
@@ -101,29 +110,50 @@ module _ {p a b : List ℕ} {n m e c : ℕ} (short : length p ≤ 255) {g : Brac
         t .passed .are ∙ ap (λ s. andMore (length p) noBrackets (openings (t .t) s)) d ∙ all-brackets (length p) (brackets (t .t)) (openings (t .t) []) (openings-count (t .t) [])
         ∙ ap (λ k. record { count = brackets (t .t); ninth = cond (ltb maxFields (brackets (t .t))) (k - length (getD (openings (t .t) []) maxFields [])) 0 }) n
 
--- The answer is right, with the arrays that were made for an accepted pattern, and the empty ones for any other.
-module _ {p : List ℕ} (short : length p ≤ 255) (x : Pattern) (k : Brackets) where
-  refuse : (r : Answer) (n q : ℕ) → r ≡ Answer.Refused n q → Fault p n q → ((k j : ℕ) → r ≡ Answer.Refused k j → x ≡ blank) → ((i j : ℕ) → r ≡ Answer.Refused i j → k ≡ noBrackets) → ReadRight p (record { answer = r; pattern = x; brackets = k })
-  refuse r n q e f h c = let z = h n q e in let y = c n q e in rw e (record { answer = Due.refused n q; right = f; means = refl; beside = z; counted = y })
+    -- Its lengths are within the limit of its weight, so they were counted whole.
+    pub found-lengths : c .weight ≤ 64 → meaning (c .lengths) ≡ lengths (t .t)
+    found-lengths h = t .size .lengths ∙ counted-whole p (t .t) (found-tree h)
 
-  accept : {b : List ℕ} {m e c : ℕ} {g : Brackets} (r : Answer) → r ≡ Accepted → (t : Alternated p 0 0 e c (replicate 2815 0) 0 b m noBrackets g) → length p ≤ e → c ≤ 64 → (r ≡ Accepted → Finished p (take m b) x) → (r ≡ Accepted → k ≡ g)
-      → ReadRight p (record { answer = r; pattern = x; brackets = k })
-  accept r q t l h f same =
-      let w = found-written short t l h refl refl x (f q) in
-      rw q (record { answer = Due.accepted (t .t); right = found-tree short t l h; means = ap accepted (w .decodes); beside = subst (Arrays.HoldsPattern x) (sym (w .decodes)) w; counted = same q ∙ found-brackets short t l h })
+-- The answer is right, with what was made for an accepted pattern, and with nothing for any other.
+module _ (p : List ℕ) (short : length p ≤ 255) (x : Pattern) (k : Brackets) (l : Lengths) where
+  abbrev Right : Answer → Type 0
+  Right r = ReadRight p (record { answer = r; pattern = x; brackets = k; lengths = l })
 
-  pub read-right : {b : List ℕ} {m : ℕ} {part : Part} {g : Brackets} (r : Answer) → AlternationRead p 0 0 (replicate 2815 0) 0 b m noBrackets g part → r ≡ answerBy (length p) part → (r ≡ Accepted → Finished p (take m b) x) → (r ≡ Accepted → k ≡ g)
-      → ((n q : ℕ) → r ≡ Answer.Refused n q → x ≡ blank) → ((n q : ℕ) → r ≡ Answer.Refused n q → k ≡ noBrackets) → ReadRight p (record { answer = r; pattern = x; brackets = k })
-  read-right r (found-fault {k = k} {q = q} f) e g same h none = refuse r k q e f h none
-  read-right r (found-part {e = end} {c = c} t) e g same h none = go (ltb end (length p)) (ltb→lt end (length p)) (λ n. nltb→le end (length p) n) e
-    where
-      weigh : (d : Bool) → (T d → 64 < c) → (T (not d) → c ≤ 64) → length p ≤ end → r ≡ cond d (Answer.Refused 8 end) Accepted → ReadRight p (record { answer = r; pattern = x; brackets = k })
-      weigh true a b l e = refuse r 8 end e (found-heavy short t l (a tt)) h none
-      weigh false a b l e = accept r e t l (b tt) g same
+  abbrev Barely : Answer → Type 0
+  Barely r = (n q : ℕ) → r ≡ Answer.Refused n q → Bare x k l
 
-      go : (d : Bool) → (T d → end < length p) → (T (not d) → length p ≤ end) → r ≡ cond d (Answer.Refused 2 end) (cond (ltb 64 c) (Answer.Refused 8 end) Accepted) → ReadRight p (record { answer = r; pattern = x; brackets = k })
-      go true a b e = refuse r 2 end e (found-close short t (a tt)) h none
-      go false a b e = weigh (ltb 64 c) (ltb→lt 64 c) (λ n. nltb→le 64 c n) (b tt) e
+  refuse : (r : Answer) (n q : ℕ) → r ≡ Answer.Refused n q → Fault p n q → Barely r → Right r
+  refuse r n q e f h = let z = h n q e in rw e (record { answer = Due.refused n q; right = f; means = refl; beside = z .0; counted = z .1; measured = z .2 })
+
+  module _ (b : List ℕ) (m : ℕ) (g : Brackets) where
+    abbrev Full : Answer → Part → Type 0
+    Full r part = r ≡ Accepted → Finished p (take m b) x × (k ≡ g) × (meaning l ≡ lengthsBy part)
+
+    accept : {e : ℕ} {c : Size} (r : Answer) → r ≡ Accepted → (t : Alternated p 0 0 e c (replicate 2815 0) 0 b m noBrackets g) → length p ≤ e → c .weight ≤ 64 → Full r (Read e c) → Right r
+    accept r q t n h f =
+        let (made, same, long) = f q in
+        let w = found-written short t n h refl refl x made in
+        rw q
+        record {
+          answer = Due.accepted (t .t);
+          right = found-tree short t n h;
+          means = ap accepted (w .decodes);
+          beside = subst (Arrays.HoldsPattern x) (sym (w .decodes)) w;
+          counted = same ∙ found-brackets short t n h;
+          measured = long ∙ found-lengths short t n h;
+        }
+
+    pub read-right : {part : Part} (r : Answer) → AlternationRead p 0 0 (replicate 2815 0) 0 b m noBrackets g part → r ≡ answerBy (length p) part → Full r part → Barely r → Right r
+    read-right r (found-fault {k = k} {q = q} f) e full bare = refuse r k q e f bare
+    read-right r (found-part {e = end} {c = c} t) e full bare = go (ltb end (length p)) (ltb→lt end (length p)) (λ n. nltb→le end (length p) n) e
+      where
+        weigh : (d : Bool) → (T d → 64 < c .weight) → (T (not d) → c .weight ≤ 64) → length p ≤ end → r ≡ cond d (Answer.Refused 8 end) Accepted → Right r
+        weigh true a b n e = refuse r 8 end e (found-heavy short t n (a tt)) bare
+        weigh false a b n e = accept r e t n (b tt) full
+
+        go : (d : Bool) → (T d → end < length p) → (T (not d) → length p ≤ end) → r ≡ cond d (Answer.Refused 2 end) (cond (ltb 64 (c .weight)) (Answer.Refused 8 end) Accepted) → Right r
+        go true a b e = refuse r 2 end e (found-close short t (a tt)) bare
+        go false a b e = weigh (ltb 64 (c .weight)) (ltb→lt 64 (c .weight)) (λ n. nltb→le 64 (c .weight) n) (b tt) e
 
 -- No answer is both.
 pub not-both : {A : Type 0} {k q : ℕ} {r : Answer} → r ≡ Answer.Refused k q → r ≡ Accepted → A
@@ -133,11 +163,11 @@ not-both e f = let z : _≡_ {A = ℕ} 0 1 = cc in absurd (omega arith)
 pub answer-refused : {k q : ℕ} (n : ℕ) (part : Part) → part ≡ Refused k q → Answer.Refused k q ≡ answerBy n part
 answer-refused n part e = rw e refl
 
-pub answer-close : {e c : ℕ} (n : ℕ) (part : Part) → part ≡ Read e c → e < n → Answer.Refused 2 e ≡ answerBy n part
+pub answer-close : {e : ℕ} {c : Size} (n : ℕ) (part : Part) → part ≡ Read e c → e < n → Answer.Refused 2 e ≡ answerBy n part
 answer-close {e} {c} n part q h = rw (q, T-true (ltb e n) (lt→ltb e n h)) refl
 
-pub answer-heavy : {e c : ℕ} (n : ℕ) (part : Part) → part ≡ Read e c → n ≤ e → 64 < c → Answer.Refused 8 e ≡ answerBy n part
-answer-heavy {e} {c} n part q h w = rw (q, not-true (ltb e n) (λ t. omega (arith, ltb→lt e n t)), T-true (ltb 64 c) (lt→ltb 64 c w)) refl
+pub answer-heavy : {e : ℕ} {c : Size} (n : ℕ) (part : Part) → part ≡ Read e c → n ≤ e → 64 < c .weight → Answer.Refused 8 e ≡ answerBy n part
+answer-heavy {e} {c} n part q h w = rw (q, not-true (ltb e n) (λ t. omega (arith, ltb→lt e n t)), T-true (ltb 64 (c .weight)) (lt→ltb 64 (c .weight) w)) refl
 
-pub answer-accepted : {e c : ℕ} (n : ℕ) (part : Part) → part ≡ Read e c → n ≤ e → c ≤ 64 → Accepted ≡ answerBy n part
-answer-accepted {e} {c} n part q h w = rw (q, not-true (ltb e n) (λ t. omega (arith, ltb→lt e n t)), not-true (ltb 64 c) (λ t. omega (arith, ltb→lt 64 c t))) refl
+pub answer-accepted : {e : ℕ} {c : Size} (n : ℕ) (part : Part) → part ≡ Read e c → n ≤ e → c .weight ≤ 64 → Accepted ≡ answerBy n part
+answer-accepted {e} {c} n part q h w = rw (q, not-true (ltb e n) (λ t. omega (arith, ltb→lt e n t)), not-true (ltb 64 (c .weight)) (λ t. omega (arith, ltb→lt 64 (c .weight) t))) refl

@@ -24,11 +24,15 @@ use Rattle.grammar.proofs.Codes.{plain-code, escaped-code, dot-code, class-code
 use Rattle.grammar.proofs.Openings.{within-count, atom-count}
 use Rattle.tokens.specs.Held.{Added, Rewritten}
 use Rattle.scanner.specs.Scanned.{Onward}
+use Rattle.lengths.specs.Lengths.{limit, least, greatest}
+use Rattle.lengths.specs.Code.{meaning, inRow, oneOf, upTo, orMore, lengthsAtom, capped}
+use Rattle.reader.specs.declared.Size.{Size}
 use Rattle.reader.specs.declared.Part.{Part}
 use Rattle.reader.specs.declared.Part.the-variants.{Read, Refused}
 use Rattle.reader.specs.declared.Brackets.{Brackets}
-use Rattle.reader.specs.Steps.{isSpecial, oneMore, Passed, AddedIf, NoRepeat, Begun, Weighs, light, loadOf, signEnd, tokensOf, Wrote, Rewrote, PartRead, found-part, found-fault, Alternated, Sequenced, Atomic, Repeated}
-use Rattle.reader.proofs.Weights.{weighs-plus, weighs-again, weighs-times, one-load, or-light, or-heavy, repeated-pos, atom-pos, atom-heaviest, load-none, load-some}
+use Rattle.reader.specs.Steps.{isSpecial, oneMore, Passed, AddedIf, NoRepeat, Begun, Weighs, light, loadOf, Sized, signEnd, tokensOf, Wrote, Rewrote, PartRead, found-part, found-fault, Alternated, Sequenced, Atomic, Repeated}
+use Rattle.reader.proofs.Weights.{or-light, or-heavy, repeated-pos, atom-pos, atom-heaviest, load-none, load-some}
+use Rattle.reader.proofs.Sizes.{one-size, row-size, either-size, Sizes, once-sizes, many-sizes, more-sizes, maybe-sizes, exactly-sizes, atLeast-sizes, between-sizes}
 use Rattle.reader.proofs.Passed.{passed-none, passed-then, passed-count, passed-group}
 use Rattle.reader.proofs.Begins.{never, at-drop, byte-drop, drop-all, held-here, next-here, depth-max, ordinary-of, no-repeat}
 
@@ -53,22 +57,22 @@ module _ {p : List ℕ} where
   wrote-rewrote x r = record { codes = r .codes (x .codes); are = r .are (x .codes) (x .are); holds = λ l h. r .holds l (x .codes) (x .holds l h) (h .used) }
 
 -- An atom that is no group, with the brackets that are there.
-pub single : {p : List ℕ} {G : Brackets → ℕ → ℕ → Type 0} {r : Part} (g : Brackets) → PartRead p (λ e c. (h : Brackets) → G h e c) r → PartRead p (G g) r
+pub single : {p : List ℕ} {G : Brackets → ℕ → Size → Type 0} {r : Part} (g : Brackets) → PartRead p (λ e c. (h : Brackets) → G h e c) r → PartRead p (G g) r
 single g (found-part f) = found-part (f g)
 single g (found-fault x) = found-fault x
 
 -- A refusal is passed on, and an answer that is known.
-module _ {p : List ℕ} {F : ℕ → ℕ → Type 0} where
+module _ {p : List ℕ} {F : ℕ → Size → Type 0} where
   refusal : {k q : ℕ} → PartRead p F (Refused k q) → Fault p k q
   refusal (found-fault h) = h
 
-  finding : {e c : ℕ} → PartRead p F (Read e c) → F e c
+  finding : {e : ℕ} {c : Size} → PartRead p F (Read e c) → F e c
   finding (found-part h) = h
 
-  pub passed-on : {G : ℕ → ℕ → Type 0} {k q : ℕ} (r : Part) → r ≡ Refused k q → PartRead p F r → PartRead p G r
+  pub passed-on : {G : ℕ → Size → Type 0} {k q : ℕ} (r : Part) → r ≡ Refused k q → PartRead p F r → PartRead p G r
   passed-on r x h = rw x (found-fault (refusal (rw x at h)))
 
-  pub known : {e c : ℕ} {r : Part} → r ≡ Read e c → PartRead p F r → F e c
+  pub known : {e : ℕ} {c : Size} {r : Part} → r ≡ Read e c → PartRead p F r → F e c
   known x h = finding (rw x at h)
 
 -- Repeats.
@@ -76,69 +80,67 @@ rewrote : {p : List ℕ} {n from m : ℕ} {a b : List ℕ} (how : Manner) (x : R
     → ((k : List ℕ) (y : Re) → map (tokenOf p) k ≡ tokens y → map (tokenOf p) (f k) ≡ tokens (repeatBy how x y)) → (y : Re) → Rewrote p a n from b m y (repeatBy how x y)
 rewrote how x f r g y = record { codes = f; are = λ k. g k y; holds = r .holds }
 
--- A repeat x makes a part that weighs v weigh c.
-abbrev Loads : ℕ → ℕ → Repeat → Type 0
-Loads v c x = (w h : ℕ) → w ≤ h → Weighs v w h → Weighs c (repeated x w) (max h (repeated x w))
-
 -- A repeat x that ends at e, with the sign after it or without.
-module _ {p : List ℕ} {at v n from m : ℕ} {a b : List ℕ} where
-  found-repeat : (x : Repeat) (e c : ℕ) (lazy : Bool) → lazy ≡ firstHolds (drop e p) 63 → WfRepeat x → unmarked x ≡ true → repeatText x (drop e p) ≡ drop at p → at ≤ e → e ≤ length p
-      → ((y : Re) → Rewrote p a n from b m y (repeatBy (manner lazy) x y)) → Loads v c x → Repeated p at v (signEnd p e) c a n from b m
-  found-repeat x e c true q w o t f i r l =
+module _ {p : List ℕ} {at n from m : ℕ} {v c : Size} {a b : List ℕ} where
+  found-repeat : (x : Repeat) (e : ℕ) (lazy : Bool) → lazy ≡ firstHolds (drop e p) 63 → WfRepeat x → unmarked x ≡ true → repeatText x (drop e p) ≡ drop at p → at ≤ e → e ≤ length p
+      → ((y : Re) → Rewrote p a n from b m y (repeatBy (manner lazy) x y)) → Sizes v c x → Repeated p at v (signEnd p e) c a n from b m
+  found-repeat x e true q w o t f i r l =
       let (j, d) = held-here p e 63 (sym q) in
-      rw (← q) record { x = lazily x; formed = (w, o); text = ap (repeatText x) (sym d) ∙ t; forward = omega arith; inside = omega arith; settled = never; unsigned = never; wrote = r; load = l }
-  found-repeat x e c false q w o t f i r l =
-      rw (← q) record { x = x; formed = w; text = t; forward = f; inside = i; settled = λ y. never (sym (not-once x o) ∙ y); unsigned = λ y. sym q; wrote = r; load = l }
+      rw (← q) record { x = lazily x; formed = (w, o); text = ap (repeatText x) (sym d) ∙ t; forward = omega arith; inside = omega arith; settled = never; unsigned = never; wrote = r; size = l }
+  found-repeat x e false q w o t f i r l =
+      rw (← q) record { x = x; formed = w; text = t; forward = f; inside = i; settled = λ y. never (sym (not-once x o) ∙ y); unsigned = λ y. sym q; wrote = r; size = l }
 
   -- A sign.
   module _ (h : at < length p) (lazy : Bool) (q : lazy ≡ firstHolds (drop (at + 1) p) 63) where
-    sign-here : (x : Repeat) (k c : ℕ) → getD p at 0 ≡ k → WfRepeat x → unmarked x ≡ true → ((s : List ℕ) → repeatText x s ≡ k ∷ s)
-        → ((y : Re) → Rewrote p a n from b m y (repeatBy (manner lazy) x y)) → Loads v c x → Repeated p at v (signEnd p (at + 1)) c a n from b m
-    sign-here x k c e w o t r l = found-repeat x (at + 1) c lazy q w o (t (drop (at + 1) p) ∙ sym (byte-drop p at k h e)) (omega arith) (omega arith) r l
+    sign-here : (x : Repeat) (k : ℕ) → getD p at 0 ≡ k → WfRepeat x → unmarked x ≡ true → ((s : List ℕ) → repeatText x s ≡ k ∷ s)
+        → ((y : Re) → Rewrote p a n from b m y (repeatBy (manner lazy) x y)) → Sizes v c x → Repeated p at v (signEnd p (at + 1)) c a n from b m
+    sign-here x k e w o t r l = found-repeat x (at + 1) lazy q w o (t (drop (at + 1) p) ∙ sym (byte-drop p at k h e)) (omega arith) (omega arith) r l
 
-    pub many-here : getD p at 0 ≡ 42 → Rewritten a n from (λ k. k ++ (starOf (manner lazy) ∷ [])) b m → Repeated p at v (signEnd p (at + 1)) v a n from b m
-    many-here e r =
-        sign-here many 42 v e tt refl (λ s. refl) (rewrote (manner lazy) many (λ k. k ++ (starOf (manner lazy) ∷ [])) r (λ k y x. star-codes p k y x (manner lazy))) (λ w h k x. weighs-again k x)
+    pub many-here : Sized c (loadOf 1 (v .weight)) (capped (orMore 0 (meaning (v .lengths)))) → getD p at 0 ≡ 42 → Rewritten a n from (λ k. k ++ (starOf (manner lazy) ∷ [])) b m
+        → Repeated p at v (signEnd p (at + 1)) c a n from b m
+    many-here d e r =
+        sign-here many 42 e tt refl (λ s. refl) (rewrote (manner lazy) many (λ k. k ++ (starOf (manner lazy) ∷ [])) r (λ k y x. star-codes p k y x (manner lazy))) (many-sizes d)
 
-    pub more-here : (c : ℕ) → c ≡ loadOf 2 v → getD p at 0 ≡ 43 → Rewritten a n from (atLeastCodes (manner lazy) 1) b m → Repeated p at v (signEnd p (at + 1)) c a n from b m
+    pub more-here : Sized c (loadOf 2 (v .weight)) (capped (orMore 1 (meaning (v .lengths)))) → getD p at 0 ≡ 43 → Rewritten a n from (atLeastCodes (manner lazy) 1) b m → Repeated p at v (signEnd p (at + 1)) c a n from b m
     unfolding chain
-    more-here c d e r =
-        sign-here more 43 c e tt refl (λ s. refl) (rewrote (manner lazy) more (atLeastCodes (manner lazy) 1) r (λ k y x. atLeast-codes p k y x (manner lazy) 1)) (λ w h k x. weighs-times 2 c d k x)
+    more-here d e r =
+        sign-here more 43 e tt refl (λ s. refl) (rewrote (manner lazy) more (atLeastCodes (manner lazy) 1) r (λ k y x. atLeast-codes p k y x (manner lazy) 1)) (more-sizes d)
 
-    pub maybe-here : getD p at 0 ≡ 63 → Rewritten a n from (betweenCodes (manner lazy) 0 1) b m → Repeated p at v (signEnd p (at + 1)) v a n from b m
+    pub maybe-here : Sized c (loadOf 1 (v .weight)) (capped (upTo 0 1 (meaning (v .lengths)))) → getD p at 0 ≡ 63 → Rewritten a n from (betweenCodes (manner lazy) 0 1) b m
+        → Repeated p at v (signEnd p (at + 1)) c a n from b m
     unfolding chain optional
-    maybe-here e r =
-        sign-here maybe 63 v e tt refl (λ s. refl) (rewrote (manner lazy) maybe (betweenCodes (manner lazy) 0 1) r (λ k y x. between-codes p k y x (manner lazy) 0 1)) (λ w h k x. weighs-again k x)
+    maybe-here d e r =
+        sign-here maybe 63 e tt refl (λ s. refl) (rewrote (manner lazy) maybe (betweenCodes (manner lazy) 0 1) r (λ k y x. between-codes p k y x (manner lazy) 0 1)) (maybe-sizes d)
 
   -- A count that was found.
   module _ (h : at < length p) (brace : getD p at 0 ≡ 123) {e : ℕ} (next : Onward p (at + 1) e) (lazy : Bool) (q : lazy ≡ firstHolds (drop e p) 63) where
-    counted : (x : Repeat) (c : ℕ) → readCount (drop (at + 1) p) ≡ found x (drop e p) → ((y : Re) → Rewrote p a n from b m y (repeatBy (manner lazy) x y)) → Loads v c x
+    counted : (x : Repeat) → readCount (drop (at + 1) p) ≡ found x (drop e p) → ((y : Re) → Rewrote p a n from b m y (repeatBy (manner lazy) x y)) → Sizes v c x
         → Repeated p at v (signEnd p e) c a n from b m
-    counted x c f r l =
+    counted x f r l =
         let i : CountIs (123 ∷ drop (at + 1) p) x (drop e p) = subst (Sound (CountIs (123 ∷ drop (at + 1) p))) f (count-sound (drop (at + 1) p)) in
-        found-repeat x e c lazy q (i .0) (i .1) (i .2 ∙ sym (byte-drop p at 123 h brace)) (omega (arith, next .forward)) (next .inside) r l
+        found-repeat x e lazy q (i .0) (i .1) (i .2 ∙ sym (byte-drop p at 123 h brace)) (omega (arith, next .forward)) (next .inside) r l
 
-    pub exactly-here : (d : Digits) (t c : ℕ) → readCount (drop (at + 1) p) ≡ found (exactly d) (drop e p) → digitsValue d ≡ t → c ≡ loadOf t v → Rewritten a n from (exactlyCodes t) b m
+    pub exactly-here : (d : Digits) (t : ℕ) → readCount (drop (at + 1) p) ≡ found (exactly d) (drop e p) → digitsValue d ≡ t
+        → Sized c (loadOf t (v .weight)) (capped (upTo t t (meaning (v .lengths)))) → Rewritten a n from (exactlyCodes t) b m
         → Repeated p at v (signEnd p e) c a n from b m
-    exactly-here d t c f g k r =
-        counted (exactly d) c f (rewrote (manner lazy) (exactly d) (exactlyCodes t) r (λ k y x. rw g (exactly-codes p k y x t))) (λ w h i x. rw g (weighs-times t c k i x))
+    exactly-here d t f g k r =
+        counted (exactly d) f (rewrote (manner lazy) (exactly d) (exactlyCodes t) r (λ k y x. rw g (exactly-codes p k y x t))) (exactly-sizes d t g k)
 
-    pub atLeast-here : (d : Digits) (t c : ℕ) → readCount (drop (at + 1) p) ≡ found (atLeast d) (drop e p) → digitsValue d ≡ t → c ≡ loadOf (t + 1) v → Rewritten a n from (atLeastCodes (manner lazy) t) b m
+    pub atLeast-here : (d : Digits) (t : ℕ) → readCount (drop (at + 1) p) ≡ found (atLeast d) (drop e p) → digitsValue d ≡ t
+        → Sized c (loadOf (t + 1) (v .weight)) (capped (orMore t (meaning (v .lengths)))) → Rewritten a n from (atLeastCodes (manner lazy) t) b m
         → Repeated p at v (signEnd p e) c a n from b m
-    atLeast-here d t c f g k r =
-        counted (atLeast d) c f (rewrote (manner lazy) (atLeast d) (atLeastCodes (manner lazy) t) r (λ k y x. rw g (atLeast-codes p k y x (manner lazy) t)))
-        (λ w h i x. rw g (let s : t + 1 ≡ suc t = omega arith in weighs-times (suc t) c (k ∙ ap (λ u. loadOf u v) s) i x))
+    atLeast-here d t f g k r =
+        counted (atLeast d) f (rewrote (manner lazy) (atLeast d) (atLeastCodes (manner lazy) t) r (λ k y x. rw g (atLeast-codes p k y x (manner lazy) t))) (atLeast-sizes d t g k)
 
-    pub between-here : (d d′ : Digits) (t u c : ℕ) → readCount (drop (at + 1) p) ≡ found (between d d′) (drop e p) → digitsValue d ≡ t → digitsValue d′ ≡ u → c ≡ loadOf u v
-        → Rewritten a n from (betweenCodes (manner lazy) t (u - t)) b m → Repeated p at v (signEnd p e) c a n from b m
-    between-here d d′ t u c f g g′ k r =
-        counted (between d d′) c f (rewrote (manner lazy) (between d d′) (betweenCodes (manner lazy) t (u - t)) r (λ k y x. rw (g, g′) (between-codes p k y x (manner lazy) t (u - t))))
-        (λ w h i x. rw g′ (weighs-times u c k i x))
+    pub between-here : (d d′ : Digits) (t u : ℕ) → readCount (drop (at + 1) p) ≡ found (between d d′) (drop e p) → digitsValue d ≡ t → digitsValue d′ ≡ u
+        → Sized c (loadOf u (v .weight)) (capped (upTo t u (meaning (v .lengths)))) → Rewritten a n from (betweenCodes (manner lazy) t (u - t)) b m → Repeated p at v (signEnd p e) c a n from b m
+    between-here d d′ t u f g g′ k r =
+        counted (between d d′) f (rewrote (manner lazy) (between d d′) (betweenCodes (manner lazy) t (u - t)) r (λ k y x. rw (g, g′) (between-codes p k y x (manner lazy) t (u - t)))) (between-sizes d d′ t u g g′ k)
 
 -- No repeat.
-module _ {p : List ℕ} {at v n from : ℕ} {a : List ℕ} where
+module _ {p : List ℕ} {at n from : ℕ} {v : Size} {a : List ℕ} where
   none-here : at ≤ length p → NoRepeat (drop at p) → Repeated p at v at v a n from a n
-  none-here h k = record { x = once; formed = tt; text = refl; forward = omega arith; inside = h; settled = λ y. k; unsigned = never; wrote = λ y. record { codes = λ k. k; are = λ k e. e; holds = λ l k h u. h }; load = λ w h k x. weighs-again k x }
+  none-here h k = record { x = once; formed = tt; text = refl; forward = omega arith; inside = h; settled = λ y. k; unsigned = never; wrote = λ y. record { codes = λ k. k; are = λ k e. e; holds = λ l k h u. h }; size = once-sizes v }
 
   pub end-here : at ≡ length p → Repeated p at v at v a n from a n
   end-here e = none-here (omega arith) (rw (drop-all p at e) tt)
@@ -165,9 +167,9 @@ whole (part a r q) k w l go stop =
     rw (e .0, e .1) w
 
 module _ {p : List ℕ} {at d : ℕ} where
-  pub sequence-stop : {f : List ℕ} {n : ℕ} {u : Brackets} → Begun p at d → (at < length p → getD p at 0 ≢ 124 → getD p at 0 ≡ 41) → Sequenced p at d at 0 f n f n u u
-  unfolding weight heaviest shape tokensOf
-  sequence-stop {f} {n} {u} b h =
+  pub sequence-stop : {f : List ℕ} {n : ℕ} {u : Brackets} {c : Size} → Sized c 0 (0, limit 0) → Begun p at d → (at < length p → getD p at 0 ≢ 124 → getD p at 0 ≡ 41) → Sequenced p at d at c f n f n u u
+  unfolding weight heaviest shape tokensOf least greatest
+  sequence-stop {f} {n} {u} z b h =
       record {
         q = nothing;
         formed = tt;
@@ -177,13 +179,14 @@ module _ {p : List ℕ} {at d : ℕ} where
         inside = b .begin .inside;
         end = h;
         wrote = wrote-none f n;
-        load = light refl (omega arith) (omega arith);
+        size = record { load = light (z .weighs) (omega arith) (omega arith); lengths = z .lasts };
         passed = passed-none u (omega arith);
       }
 
-  pub sequence-part : {e c k v l u n n₁ n₂ n₃ m : ℕ} {f g₁ g₂ g₃ g : List ℕ} {i j o : Brackets} (r : ℕ) → Atomic p at d e c f n g₁ n₁ i j → Repeated p e c k v g₁ n₁ n g₂ n₂ → Sequenced p k d l u g₂ n₂ g₃ n₃ j o
-      → ((u ≡ 0 → ⊥) → Added g₃ n₃ (1 ∷ []) g m) → (u ≡ 0 → (g ≡ g₃) × (m ≡ n₃)) → r ≡ min 65 (v + u) → Sequenced p at d l r f n g m i o
-  unfolding weight heaviest shape
+  pub sequence-part : {e k l n n₁ n₂ n₃ m : ℕ} {c v u : Size} {f g₁ g₂ g₃ g : List ℕ} {i j o : Brackets} (r : Size) → Atomic p at d e c f n g₁ n₁ i j → Repeated p e c k v g₁ n₁ n g₂ n₂ → Sequenced p k d l u g₂ n₂ g₃ n₃ j o
+      → ((u .weight ≡ 0 → ⊥) → Added g₃ n₃ (1 ∷ []) g m) → (u .weight ≡ 0 → (g ≡ g₃) × (m ≡ n₃))
+      → Sized r (min 65 (v .weight + u .weight)) (capped (inRow (meaning (v .lengths)) (meaning (u .lengths)))) → Sequenced p at d l r f n g m i o
+  unfolding weight heaviest shape least greatest
   sequence-part {e} {l = l} {n = n} {n₂ = n₂} {n₃ = n₃} {f = f} {g₂ = g₂} {g₃ = g₃} {i = i} {j = j} r a x q go stop z =
       let after : repeatText (x .x) (sequence (q .q) (drop l p)) ≡ drop e p = rw (q .text) (x .text) in
       let k : j .count ≡ i .count + bracketsAtom (a .x) = passed-count (a .passed) ∙ ap (λ n. i .count + n) (atom-count (a .x) (drop e p)) in
@@ -197,17 +200,18 @@ module _ {p : List ℕ} {at d : ℕ} where
         end = q .end;
         wrote =
             joined (q .q) (i .count + bracketsAtom (a .x)) (repeatOf (x .x) (shapeAtom (a .x) (i .count)))
-            (wrote-rewrote (a .wrote) (x .wrote (shapeAtom (a .x) (i .count)))) (subst (λ n. Wrote p g₂ n₂ g₃ n₃ (tokensOf (parts (q .q) n))) k (q .wrote)) (q .load) go stop;
-        load =
-            weighs-plus r (weights (part (a .x) (x .x) (q .q))) (heaviestWithin (part (a .x) (x .x) (q .q))) z refl
-            (x .load (weightAtom (a .x)) (heaviestAtom (a .x)) (atom-heaviest (a .x)) (a .load)) (q .load) (λ f g h. omega arith) (λ f. omega arith);
+            (wrote-rewrote (a .wrote) (x .wrote (shapeAtom (a .x) (i .count)))) (subst (λ n. Wrote p g₂ n₂ g₃ n₃ (tokensOf (parts (q .q) n))) k (q .wrote)) (q .size .load) go stop;
+        size =
+            row-size r (weights (part (a .x) (x .x) (q .q))) (heaviestWithin (part (a .x) (x .x) (q .q))) refl
+            (x .size (weightAtom (a .x)) (heaviestAtom (a .x)) (lengthsAtom (a .x)) (atom-heaviest (a .x)) (a .size)) (q .size) (λ f g h. omega arith) (λ f. omega arith) z;
         passed = rw after (passed-then (a .passed) (x .forward) (q .passed));
       }
 
   -- Alternations.
-  pub alternation-last : {e c n n₁ m : ℕ} {f g₁ g : List ℕ} {i j : Brackets} (r : ℕ) → Sequenced p at d e c f n g₁ n₁ i j → (c ≡ 0 → Added g₁ n₁ (0 ∷ []) g m) → ((c ≡ 0 → ⊥) → (g ≡ g₁) × (m ≡ n₁)) → r ≡ max 1 c
+  pub alternation-last : {e n n₁ m : ℕ} {c : Size} {f g₁ g : List ℕ} {i j : Brackets} (r : Size) → Sequenced p at d e c f n g₁ n₁ i j → (c .weight ≡ 0 → Added g₁ n₁ (0 ∷ []) g m)
+      → ((c .weight ≡ 0 → ⊥) → (g ≡ g₁) × (m ≡ n₁)) → Sized r (max 1 (c .weight)) (meaning (c .lengths))
       → (e < length p → getD p e 0 ≢ 124) → Alternated p at d e r f n g m i j
-  unfolding weight heaviest shape
+  unfolding weight heaviest shape least greatest
   alternation-last {i = i} r q go stop e h =
       record {
         t = last (q .q);
@@ -217,14 +221,16 @@ module _ {p : List ℕ} {at d : ℕ} where
         forward = q .forward;
         inside = q .inside;
         end = λ l. q .end l (h l);
-        wrote = whole (q .q) (i .count) (q .wrote) (q .load) go stop;
-        load = one-load r e (q .load);
+        wrote = whole (q .q) (i .count) (q .wrote) (q .size .load) go stop;
+        size = one-size r e (q .size);
         passed = q .passed;
       }
 
-  pub alternation-or : {e c l v n n₁ n₂ n₃ m : ℕ} {f g₁ g₂ g₃ g : List ℕ} {i j k : Brackets} (w r : ℕ) → Sequenced p at d e c f n g₁ n₁ i j → (c ≡ 0 → Added g₁ n₁ (0 ∷ []) g₂ n₂) → ((c ≡ 0 → ⊥) → (g₂ ≡ g₁) × (n₂ ≡ n₁)) → w ≡ max 1 c
-      → e < length p → getD p e 0 ≡ 124 → Alternated p (e + 1) d l v g₂ n₂ g₃ n₃ j k → Added g₃ n₃ (2 ∷ []) g m → r ≡ min 65 (w + v) → Alternated p at d l r f n g m i k
-  unfolding weight heaviest shape tokens
+  pub alternation-or : {e l n n₁ n₂ n₃ m : ℕ} {c v : Size} {f g₁ g₂ g₃ g : List ℕ} {i j k : Brackets} (w r : Size) → Sequenced p at d e c f n g₁ n₁ i j → (c .weight ≡ 0 → Added g₁ n₁ (0 ∷ []) g₂ n₂)
+      → ((c .weight ≡ 0 → ⊥) → (g₂ ≡ g₁) × (n₂ ≡ n₁)) → Sized w (max 1 (c .weight)) (meaning (c .lengths))
+      → e < length p → getD p e 0 ≡ 124 → Alternated p (e + 1) d l v g₂ n₂ g₃ n₃ j k → Added g₃ n₃ (2 ∷ []) g m
+      → Sized r (min 65 (w .weight + v .weight)) (capped (oneOf (meaning (w .lengths)) (meaning (v .lengths)))) → Alternated p at d l r f n g m i k
+  unfolding weight heaviest shape tokens least greatest
   alternation-or {e} {l = l} {n₂ = n₂} {n₃ = n₃} {g₂ = g₂} {g₃ = g₃} {i = i} {j = j} w r q go stop x h y t o z =
       let after : 124 ∷ alternation (t .t) (drop l p) ≡ drop e p = ap (λ s. 124 ∷ s) (t .text) ∙ sym (byte-drop p e 124 h y) in
       let k : j .count ≡ i .count + bracketsWithin (q .q) = passed-count (q .passed) ∙ ap (λ n. i .count + n) (within-count (q .q) (drop e p)) in
@@ -237,20 +243,20 @@ module _ {p : List ℕ} {at d : ℕ} where
         forward = omega (arith, q .forward, t .forward);
         inside = t .inside;
         end = t .end;
-        wrote = wrote-then (whole (q .q) (i .count) (q .wrote) (q .load) go stop) (wrote-then rest (wrote-added 2 (Tokens.or ∷ []) refl o));
+        wrote = wrote-then (whole (q .q) (i .count) (q .wrote) (q .size .load) go stop) (wrote-then rest (wrote-added 2 (Tokens.or ∷ []) refl o));
         passed = rw after (passed-then (q .passed) (omega arith) (t .passed));
-        load =
-            weighs-plus r (weight (or (q .q) (t .t))) (heaviest (or (q .q) (t .t))) z refl (one-load w x (q .load)) (t .load)
-            (or-light (max 1 (weights (q .q))) (weight (t .t)) (heaviestWithin (q .q)) (heaviest (t .t))) (or-heavy (max 1 (weights (q .q))) (weight (t .t)) (heaviestWithin (q .q)) (heaviest (t .t)));
+        size =
+            either-size r (weight (or (q .q) (t .t))) (heaviest (or (q .q) (t .t))) refl (one-size w x (q .size)) (t .size)
+            (or-light (max 1 (weights (q .q))) (weight (t .t)) (heaviestWithin (q .q)) (heaviest (t .t))) (or-heavy (max 1 (weights (q .q))) (weight (t .t)) (heaviestWithin (q .q)) (heaviest (t .t))) z;
       }
 
 -- Atoms.
 module _ {p : List ℕ} {at d : ℕ} (b : Begun p at d) (i : at < length p) {n m : ℕ} {f g : List ℕ} where
   -- A leaf, whose code is that of its place.
-  module _ (u : Added f n ((firstLeaf + at) ∷ []) g m) (j : Brackets) where
-    leaf-here : (x : Atom) (e : ℕ) → map (tokenOf p) ((firstLeaf + at) ∷ []) ≡ tokens (shapeAtom x (j .count)) → openingsAtom x (drop e p) ≡ [] → WfAtom x → depthAtom x ≡ 0 → weightAtom x ≡ 1 → heaviestAtom x ≡ 1
-        → atom x (drop e p) ≡ drop at p → at < e → e ≤ length p → Atomic p at d e 1 f n g m j j
-    leaf-here x e v o w k y z t l r =
+  module _ (u : Added f n ((firstLeaf + at) ∷ []) g m) {c : Size} (q : Sized c 1 (1, limit 1)) (j : Brackets) where
+    leaf-here : (x : Atom) (e : ℕ) → map (tokenOf p) ((firstLeaf + at) ∷ []) ≡ tokens (shapeAtom x (j .count)) → openingsAtom x (drop e p) ≡ [] → WfAtom x → depthAtom x ≡ 0 → weightAtom x ≡ 1 → heaviestAtom x ≡ 1 → lengthsAtom x ≡ (1, limit 1)
+        → atom x (drop e p) ≡ drop at p → at < e → e ≤ length p → Atomic p at d e c f n g m j j
+    leaf-here x e v o w k y z s t l r =
         record {
           x = x;
           formed = w;
@@ -259,37 +265,37 @@ module _ {p : List ℕ} {at d : ℕ} (b : Begun p at d) (i : at < length p) {n m
           forward = l;
           inside = r;
           wrote = wrote-added (firstLeaf + at) (tokens (shapeAtom x (j .count))) v u;
-          load = light (omega arith) (omega arith) (omega arith);
+          size = record { load = light (omega (arith, q .weighs)) (omega arith) (omega arith); lengths = q .lasts ∙ ap capped (sym s) };
           passed = rw o (passed-none j (omega arith));
         }
 
-    pub plain-here : false ≡ isSpecial (getD p at 0) → Atomic p at d (at + 1) 1 f n g m j j
-    unfolding weight heaviest
+    pub plain-here : false ≡ isSpecial (getD p at 0) → Atomic p at d (at + 1) c f n g m j j
+    unfolding weight heaviest least greatest
     plain-here e =
-        leaf-here (byte (plain (getD p at 0))) (at + 1) (plain-code p at (j .count) (drop (at + 1) p) (getD p at 0) (at-drop p at i) (ordinary-of (getD p at 0) e)) refl (ordinary-of (getD p at 0) e) refl refl refl (sym (at-drop p at i)) (omega arith) (omega arith)
+        leaf-here (byte (plain (getD p at 0))) (at + 1) (plain-code p at (j .count) (drop (at + 1) p) (getD p at 0) (at-drop p at i) (ordinary-of (getD p at 0) e)) refl (ordinary-of (getD p at 0) e) refl refl refl refl (sym (at-drop p at i)) (omega arith) (omega arith)
 
-    pub dot-here : getD p at 0 ≡ 46 → Atomic p at d (at + 1) 1 f n g m j j
-    unfolding weight heaviest
-    dot-here e = leaf-here dot (at + 1) (dot-code p at (j .count) (drop (at + 1) p) (byte-drop p at 46 i e)) refl tt refl refl refl (sym (byte-drop p at 46 i e)) (omega arith) (omega arith)
+    pub dot-here : getD p at 0 ≡ 46 → Atomic p at d (at + 1) c f n g m j j
+    unfolding weight heaviest least greatest
+    dot-here e = leaf-here dot (at + 1) (dot-code p at (j .count) (drop (at + 1) p) (byte-drop p at 46 i e)) refl tt refl refl refl refl (sym (byte-drop p at 46 i e)) (omega arith) (omega arith)
 
-    pub escaped-here : getD p at 0 ≡ 92 → at + 1 ≢ length p → true ≡ isSpecial (getD p (at + 1) 0) → Atomic p at d (at + 2) 1 f n g m j j
-    unfolding weight heaviest
+    pub escaped-here : getD p at 0 ≡ 92 → at + 1 ≢ length p → true ≡ isSpecial (getD p (at + 1) 0) → Atomic p at d (at + 2) c f n g m j j
+    unfolding weight heaviest least greatest
     escaped-here e k s =
         let h : at + 1 < length p = omega arith in
         let t : drop at p ≡ 92 ∷ getD p (at + 1) 0 ∷ drop (at + 2) p = byte-drop p at 92 i e ∙ ap (λ l. 92 ∷ l) (next-here b i h) in
-        leaf-here (byte (escaped (getD p (at + 1) 0))) (at + 2) (escaped-code p at (j .count) (drop (at + 2) p) (getD p (at + 1) 0) t) refl (sym s) refl refl refl (sym t) (omega arith) (omega arith)
+        leaf-here (byte (escaped (getD p (at + 1) 0))) (at + 2) (escaped-code p at (j .count) (drop (at + 2) p) (getD p (at + 1) 0) t) refl (sym s) refl refl refl refl (sym t) (omega arith) (omega arith)
 
-    pub class-here : {e : ℕ} (x : Atom) → getD p at 0 ≡ 91 → readClass (drop (at + 1) p) ≡ found x (drop e p) → Onward p (at + 1) e → Atomic p at d e 1 f n g m j j
-    unfolding weight heaviest
+    pub class-here : {e : ℕ} (x : Atom) → getD p at 0 ≡ 91 → readClass (drop (at + 1) p) ≡ found x (drop e p) → Onward p (at + 1) e → Atomic p at d e c f n g m j j
+    unfolding weight heaviest least greatest
     class-here {e} a h r o =
         let (c, x, l, s, w, v, t) = subst (Sound (ClassIs (91 ∷ drop (at + 1) p))) r (class-sound (drop (at + 1) p)) in
-        leaf-here (class c x l) e (class-code p at (j .count) (drop (at + 1) p) c x l (drop e p) (byte-drop p at 91 i h) (r ∙ ap (λ y. found y (drop e p)) s)) refl (w, v) refl refl refl (t ∙ sym (byte-drop p at 91 i h)) (omega (arith, o .forward)) (o .inside)
+        leaf-here (class c x l) e (class-code p at (j .count) (drop (at + 1) p) c x l (drop e p) (byte-drop p at 91 i h) (r ∙ ap (λ y. found y (drop e p)) s)) refl (w, v) refl refl refl refl (t ∙ sym (byte-drop p at 91 i h)) (omega (arith, o .forward)) (o .inside)
 
   -- A group, whose bracket is a field if it is one of the first eight.
-  pub group-here : {e c k : ℕ} {h : List ℕ} {u w v : Brackets} → getD p at 0 ≡ 40 → w ≡ oneMore u at → Alternated p (at + 1) (d + 1) e c f n h k w v → e ≢ length p → AddedIf (u .count < maxFields) h k (firstField + u .count) g m
+  pub group-here : {e k : ℕ} {c : Size} {h : List ℕ} {u w v : Brackets} → getD p at 0 ≡ 40 → w ≡ oneMore u at → Alternated p (at + 1) (d + 1) e c f n h k w v → e ≢ length p → AddedIf (u .count < maxFields) h k (firstField + u .count) g m
       → Atomic p at d (e + 1) c f n g m u v
-  unfolding weight heaviest shape
-  group-here {e} {c} {k} {h} {u} {w} {v} x is t′ o z =
+  unfolding weight heaviest shape least greatest
+  group-here {e} {k} {c} {h} {u} {w} {v} x is t′ o z =
       let l : e < length p = omega (arith, t .inside) in
       let y = byte-drop p e 41 l (t .end l) in
       let whole-text : atom (group (t .t)) (drop (e + 1) p) ≡ drop at p = rw (← y, t .text) (sym (byte-drop p at 40 i x)) in
@@ -301,7 +307,7 @@ module _ {p : List ℕ} {at d : ℕ} (b : Begun p at d) (i : at < length p) {n m
         forward = omega (arith, t .forward);
         inside = omega arith;
         wrote = marked (decLt (u .count) maxFields);
-        load = t .load;
+        size = t .size;
         passed = passed-group (atom (group (t .t)) (drop (e + 1) p)) (omega arith) whole-text (subst (λ s. Passed p (at + 1) e (openings (t .t) s) (oneMore u at) v) y (t .passed));
       }
     where

@@ -13,6 +13,9 @@ use Rattle.grammar.specs.Refusals as Due
 use Rattle.arrays.specs.declared.Pattern.{Pattern}
 use Rattle.arrays.specs.Decoded.{decode, blank}
 use Rattle.arrays.specs.Finished.{HoldsPattern}
+use Rattle.lengths.specs.Lengths.{limit}
+use Rattle.lengths.specs.Code.{Extent, lengths}
+use Rattle.lengths.specs.Code as Lengths
 use Rattle.reader.specs.declared.Answer.{Answer}
 use Rattle.reader.specs.declared.Answer.the-variants.{Accepted, Refused}
 use Rattle.reader.specs.declared.Brackets.{Brackets}
@@ -46,6 +49,12 @@ abbrev pub bracketsDue : Due.Answer → Brackets
 bracketsDue (Due.accepted t) = record { count = brackets t; ninth = cond (ltb maxFields (brackets t)) (ninth t) 0 }
 bracketsDue (Due.refused n q) = noBrackets
 
+-- "The reader also hands back the least and the greatest length an accepted pattern could match" (request 6). A refused pattern has no lengths: what stands there is that of
+-- the empty pattern, as in the arrays.
+abbrev pub lengthsDue : Due.Answer → Extent
+lengthsDue (Due.accepted t) = lengths t
+lengthsDue (Due.refused n q) = (0, limit 0)
+
 -- The reader's answer is the one that is right, and the arrays are the written-out pattern's, leaf sets included.
 pub record ReadRight (p : List ℕ) (r : Reading) : Type 0 where
   pub answer : Due.Answer
@@ -53,3 +62,4 @@ pub record ReadRight (p : List ℕ) (r : Reading) : Type 0 where
   pub means : meaning (r .answer) (r .pattern) ≡ due answer
   pub beside : Beside (r .answer) (r .pattern)
   pub counted : r .brackets ≡ bracketsDue answer
+  pub measured : Lengths.meaning (r .lengths) ≡ lengthsDue answer

@@ -1,4 +1,4 @@
--- What the functions of the cycle find at a place: a part of a tree, its tokens and its weight, or the pattern's fault.
+-- What the functions of the cycle find at a place: a part of a tree, its tokens and its size, or the pattern's fault.
 -- Assumes nothing.
 use mathlib.Core.Path.{_≡_}
 use mathlib.Core.Logic.{_≢_}
@@ -17,10 +17,13 @@ use Rattle.grammar.specs.Refusals.{Fault}
 use Rattle.grammar.specs.Code.Tokens.{maxParts, Token, tokens}
 use Rattle.grammar.specs.Code.Codes.{firstHolds, tokenOf}
 use Rattle.tokens.specs.Held.{HoldsCodes, Added}
+use Rattle.lengths.specs.Lengths.{limit}
+use Rattle.lengths.specs.Code.{Extent, meaning, lengths, lengthsWithin, lengthsAtom, underRepeat, capped}
 use Rattle.reader.specs.declared.Answer.{Answer}
 use Rattle.reader.specs.declared.Answer.the-variants.{Accepted}
 use Rattle.reader.specs.declared.Answer.the-variants as Answer
 use Rattle.reader.specs.declared.Brackets.{Brackets}
+use Rattle.reader.specs.declared.Size.{Size}
 use Rattle.reader.specs.declared.Part.{Part}
 use Rattle.reader.specs.declared.Part.the-variants.{Read, Refused}
 
@@ -83,6 +86,16 @@ pub data Weighs (c w h : ℕ) : Type 0 where
   light : c ≡ w → w ≤ maxWeight → h ≤ maxWeight → Weighs c w h
   heavy : c ≡ aboveLimit → maxWeight < max w h → Weighs c w h
 
+-- A size has the weight c and the lengths y.
+pub record Sized (s : Size) (c : ℕ) (y : Extent) : Type 0 where
+  pub weighs : s .weight ≡ c
+  pub lasts : meaning (s .lengths) ≡ y
+
+-- The size of a part that weighs w, its heaviest part h, and has the lengths y.
+pub record SizeOf (s : Size) (w h : ℕ) (y : Extent) : Type 0 where
+  pub load : Weighs (s .weight) w h
+  pub lengths : meaning (s .lengths) ≡ capped y
+
 -- The weight of n copies of a part that weighs v.
 abbrev pub loadOf : ℕ → ℕ → ℕ
 loadOf n v = cond (eqb v aboveLimit) aboveLimit (min aboveLimit (times n v))
@@ -127,13 +140,13 @@ pub record Rewrote (p : List ℕ) (a : List ℕ) (n from : ℕ) (b : List ℕ) (
   pub are : (k : List ℕ) → map (tokenOf p) k ≡ tokens y → map (tokenOf p) (codes k) ≡ tokens z
   pub holds : (l k : List ℕ) → HoldsCodes a n (l ++ k) → from ≡ min maxParts (length l) → HoldsCodes b m (l ++ codes k)
 
--- What is found, F, ends at e and weighs c; or the pattern has the fault.
-pub data PartRead (p : List ℕ) (F : ℕ → ℕ → Type 0) : Part → Type 0 where
-  found-part : {e c : ℕ} → F e c → PartRead p F (Read e c)
+-- What is found, F, ends at e and has the size c; or the pattern has the fault.
+pub data PartRead (p : List ℕ) (F : ℕ → Size → Type 0) : Part → Type 0 where
+  found-part : {e : ℕ} {c : Size} → F e c → PartRead p F (Read e c)
   found-fault : {k q : ℕ} → Fault p k q → PartRead p F (Refused k q)
 
--- An alternation from the place `at` to e, weighing c.
-pub record Alternated (p : List ℕ) (at d e c : ℕ) (a : List ℕ) (n : ℕ) (b : List ℕ) (m : ℕ) (g h : Brackets) : Type 0 where
+-- An alternation from the place `at` to e, of the size c.
+pub record Alternated (p : List ℕ) (at d e : ℕ) (c : Size) (a : List ℕ) (n : ℕ) (b : List ℕ) (m : ℕ) (g h : Brackets) : Type 0 where
   pub t : Alternation
   pub formed : WfAlternation t
   pub shallow : d + depth t ≤ maxDepth
@@ -142,14 +155,14 @@ pub record Alternated (p : List ℕ) (at d e c : ℕ) (a : List ℕ) (n : ℕ) (
   pub inside : e ≤ length p
   pub end : e < length p → getD p e 0 ≡ 41
   pub wrote : Wrote p a n b m (tokens (shape t (g .count)))
-  pub load : Weighs c (weight t) (heaviest t)
+  pub size : SizeOf c (weight t) (heaviest t) (lengths t)
   pub passed : Passed p at e (openings t (drop e p)) g h
 
 abbrev pub AlternationRead : List ℕ → ℕ → ℕ → List ℕ → ℕ → List ℕ → ℕ → Brackets → Brackets → Part → Type 0
 AlternationRead p at d a n b m g h = PartRead p (λ e c. Alternated p at d e c a n b m g h)
 
 -- A sequence.
-pub record Sequenced (p : List ℕ) (at d e c : ℕ) (a : List ℕ) (n : ℕ) (b : List ℕ) (m : ℕ) (g h : Brackets) : Type 0 where
+pub record Sequenced (p : List ℕ) (at d e : ℕ) (c : Size) (a : List ℕ) (n : ℕ) (b : List ℕ) (m : ℕ) (g h : Brackets) : Type 0 where
   pub q : Sequence
   pub formed : WfSequence q
   pub shallow : d + depthSequence q ≤ maxDepth
@@ -158,14 +171,14 @@ pub record Sequenced (p : List ℕ) (at d e c : ℕ) (a : List ℕ) (n : ℕ) (b
   pub inside : e ≤ length p
   pub end : e < length p → getD p e 0 ≢ 124 → getD p e 0 ≡ 41
   pub wrote : Wrote p a n b m (tokensOf (parts q (g .count)))
-  pub load : Weighs c (weights q) (heaviestWithin q)
+  pub size : SizeOf c (weights q) (heaviestWithin q) (lengthsWithin q)
   pub passed : Passed p at e (openingsWithin q (drop e p)) g h
 
 abbrev pub SequenceRead : List ℕ → ℕ → ℕ → List ℕ → ℕ → List ℕ → ℕ → Brackets → Brackets → Part → Type 0
 SequenceRead p at d a n b m g h = PartRead p (λ e c. Sequenced p at d e c a n b m g h)
 
 -- An atom.
-pub record Atomic (p : List ℕ) (at d e c : ℕ) (a : List ℕ) (n : ℕ) (b : List ℕ) (m : ℕ) (g h : Brackets) : Type 0 where
+pub record Atomic (p : List ℕ) (at d e : ℕ) (c : Size) (a : List ℕ) (n : ℕ) (b : List ℕ) (m : ℕ) (g h : Brackets) : Type 0 where
   pub x : Atom
   pub formed : WfAtom x
   pub shallow : d + depthAtom x ≤ maxDepth
@@ -173,7 +186,7 @@ pub record Atomic (p : List ℕ) (at d e c : ℕ) (a : List ℕ) (n : ℕ) (b : 
   pub forward : at < e
   pub inside : e ≤ length p
   pub wrote : Wrote p a n b m (tokens (shapeAtom x (g .count)))
-  pub load : Weighs c (weightAtom x) (heaviestAtom x)
+  pub size : SizeOf c (weightAtom x) (heaviestAtom x) (lengthsAtom x)
   pub passed : Passed p at e (openingsAtom x (drop e p)) g h
 
 abbrev pub AtomRead : List ℕ → ℕ → ℕ → List ℕ → ℕ → List ℕ → ℕ → Brackets → Brackets → Part → Type 0
@@ -183,8 +196,8 @@ AtomRead p at d a n b m g h = PartRead p (λ e c. Atomic p at d e c a n b m g h)
 abbrev pub LeafRead : List ℕ → ℕ → ℕ → List ℕ → ℕ → List ℕ → ℕ → Part → Type 0
 LeafRead p at d a n b m = PartRead p (λ e c. (g : Brackets) → Atomic p at d e c a n b m g g)
 
--- A repeat, or none, after an atom that weighs v and whose codes begin at the place `from`.
-pub record Repeated (p : List ℕ) (at v e c : ℕ) (a : List ℕ) (n from : ℕ) (b : List ℕ) (m : ℕ) : Type 0 where
+-- A repeat, or none, after an atom of the size v whose codes begin at the place `from`.
+pub record Repeated (p : List ℕ) (at : ℕ) (v : Size) (e : ℕ) (c : Size) (a : List ℕ) (n from : ℕ) (b : List ℕ) (m : ℕ) : Type 0 where
   pub x : Repeat
   pub formed : WfRepeat x
   pub text : repeatText x (drop e p) ≡ drop at p
@@ -193,12 +206,17 @@ pub record Repeated (p : List ℕ) (at v e c : ℕ) (a : List ℕ) (n from : ℕ
   pub settled : isOnce x ≡ true → NoRepeat (drop e p)
   pub unsigned : unmarked x ≡ true → NoSign (drop e p)
   pub wrote : (y : Re) → Rewrote p a n from b m y (repeatOf x y)
-  pub load : (w h : ℕ) → w ≤ h → Weighs v w h → Weighs c (repeated x w) (max h (repeated x w))
+  pub size : (w h : ℕ) (y : Extent) → w ≤ h → SizeOf v w h y → SizeOf c (repeated x w) (max h (repeated x w)) (underRepeat x y)
 
-abbrev pub RepeatRead : List ℕ → ℕ → ℕ → List ℕ → ℕ → ℕ → List ℕ → ℕ → Part → Type 0
+abbrev pub RepeatRead : List ℕ → ℕ → Size → List ℕ → ℕ → ℕ → List ℕ → ℕ → Part → Type 0
 RepeatRead p at v a n from b m = PartRead p (λ e c. Repeated p at v e c a n from b m)
 
 -- The answer for a pattern of n bytes by what was found from its start: a `)` where the alternation ends has no `(`.
 abbrev pub answerBy : ℕ → Part → Answer
 answerBy n (Refused k q) = Answer.Refused k q
-answerBy n (Read e c) = cond (ltb e n) (Answer.Refused 2 e) (cond (ltb maxWeight c) (Answer.Refused 8 e) Accepted)
+answerBy n (Read e c) = cond (ltb e n) (Answer.Refused 2 e) (cond (ltb maxWeight (c .weight)) (Answer.Refused 8 e) Accepted)
+
+-- How long the matches of what was found can be, as far as they are counted.
+abbrev pub lengthsBy : Part → Extent
+lengthsBy (Refused k q) = (0, limit 0)
+lengthsBy (Read e c) = meaning (c .lengths)

@@ -8,11 +8,14 @@ ghost use lib.ListN.{length, getD};
 ghost use Rattle.grammar.specs.Limits.{maxBytes};
 ghost use Rattle.grammar.specs.Brackets.{maxFields};
 ghost use Rattle.grammar.specs.Code.Codes.{emptyKind, sequenceKind, firstField, firstLeaf};
-ghost use Rattle.reader.specs.Steps.{isSpecial, aboveLimit, loadOf, signEnd, oneMore, Begun, Ready, AtomAt, AlternationRead, SequenceRead, AtomRead, LeafRead, RepeatRead, AddedIf, answerBy};
+ghost use Rattle.reader.specs.Steps.{isSpecial, aboveLimit, loadOf, Sized, signEnd, oneMore, Begun, Ready, AtomAt, AlternationRead, SequenceRead, AtomRead, LeafRead, RepeatRead, AddedIf, answerBy, lengthsBy};
 ghost use Rattle.reader.specs.Reading.{noBrackets, ReadRight};
 ghost use Rattle.tokens.specs.Held.{Added};
+ghost use Rattle.lengths.specs.Lengths.{limit};
+ghost use Rattle.lengths.specs.Code.{meaning, inRow, oneOf, upTo, orMore, capped};
 use arrays::Codes;
 use arrays::Pattern;
+use lengths::Lengths;
 use scanner::Class;
 use scanner::Count;
 
@@ -22,16 +25,23 @@ pub enum Answer {
     Refused { number: u8, place: usize },
 }
 
-// The answer beside the pattern's arrays and its brackets; a refused pattern has none.
+// The answer beside the pattern's arrays, its brackets and how long its matches can be; a refused pattern has none of them.
 pub struct Reading {
     pub answer: Answer,
     pub pattern: Pattern,
     pub brackets: Brackets,
+    pub lengths: Lengths,
 }
 
-// What reading from a place finds: the place after it, and its weight, ABOVE_LIMIT for any above the limit; or the refusal.
+// What a part weighs, ABOVE_LIMIT for any weight above the limit, and how long its matches can be.
+pub struct Size {
+    pub weight: usize,
+    pub lengths: Lengths,
+}
+
+// What reading from a place finds: the place after it, and its size; or the refusal.
 pub enum Part {
-    Read { at: usize, weight: usize },
+    Read { at: usize, size: Size },
     Refused { number: u8, place: usize },
 }
 
@@ -63,13 +73,13 @@ const SIGN: u8 = b'?';
 // Stands for any weight above the limit.
 const ABOVE_LIMIT: usize = Pattern::MAX_WEIGHT + 1;
 
-fn found(at: usize, weight: usize, len: usize) -> Step
-    ensures { λ r. ⌜ r ≡ record { part = Part.Read at weight; len = len } ⌝ }
+fn found(at: usize, size: Size, len: usize) -> Step
+    ensures { λ r. ⌜ r ≡ record { part = Part.Read at size; len = len } ⌝ }
 {
     Step {
         part: Part::Read {
             at: at,
-            weight: weight,
+            size: size,
         },
         len: len,
     }
@@ -129,10 +139,60 @@ fn plus(a: usize, b: usize) -> usize
     words::least(a + b, ABOVE_LIMIT)
 }
 
-fn one_at_least(w: usize) -> usize
-    ensures { λ r. ⌜ r ≡ max 1 w ⌝ }
+// The empty sequence: it weighs nothing until it stands as an alternative.
+fn no_part() -> Size
+    ensures { λ r. ⌜ Sized r 0 (0, limit 0) ⌝ }
 {
-    if w == 0 { 1 } else { w }
+    Size {
+        weight: 0,
+        lengths: lengths::nothing(),
+    }
+}
+
+fn leaf_size() -> Size
+    ensures { λ r. ⌜ Sized r 1 (1, limit 1) ⌝ }
+{
+    Size {
+        weight: 1,
+        lengths: lengths::leaf(),
+    }
+}
+
+// An alternative weighs 1 at least.
+fn one_at_least(x: Size) -> Size
+    ensures { λ r. ⌜ Sized r (max 1 (x .weight)) (meaning (x .lengths)) ⌝ }
+{
+    let own = x.lengths;
+    Size {
+        weight: if x.weight == 0 { 1 } else { x.weight },
+        lengths: own,
+    }
+}
+
+// Two parts in a row.
+fn in_row(x: Size, y: Size) -> Size
+    requires { ⌜ (x .weight ≤ aboveLimit) × (y .weight ≤ aboveLimit) ⌝ }
+    ensures { λ r. ⌜ Sized r (min aboveLimit (x .weight + y .weight)) (capped (inRow (meaning (x .lengths)) (meaning (y .lengths)))) ⌝ }
+{
+    let first = x.lengths;
+    let second = y.lengths;
+    Size {
+        weight: plus(x.weight, y.weight),
+        lengths: lengths::in_row(first, second),
+    }
+}
+
+// Two alternatives.
+fn one_of(x: Size, y: Size) -> Size
+    requires { ⌜ (x .weight ≤ aboveLimit) × (y .weight ≤ aboveLimit) ⌝ }
+    ensures { λ r. ⌜ Sized r (min aboveLimit (x .weight + y .weight)) (capped (oneOf (meaning (x .lengths)) (meaning (y .lengths)))) ⌝ }
+{
+    let first = x.lengths;
+    let second = y.lengths;
+    Size {
+        weight: plus(x.weight, y.weight),
+        lengths: lengths::one_of(first, second),
+    }
 }
 
 // The weight of that many copies; a part above the limit stays so, even under {0}.
@@ -147,6 +207,30 @@ fn load(times: usize, weight: usize) -> usize
         return 1;
     }
     words::least(times * weight, ABOVE_LIMIT)
+}
+
+// From m to n copies.
+fn up_to(m: usize, n: usize, x: Size) -> Size
+    requires { ⌜ (n ≤ 64) × (x .weight ≤ aboveLimit) ⌝ }
+    ensures { λ r. ⌜ Sized r (loadOf n (x .weight)) (capped (upTo m n (meaning (x .lengths)))) ⌝ }
+{
+    let each = x.lengths;
+    Size {
+        weight: load(n, x.weight),
+        lengths: lengths::up_to(m, n, each),
+    }
+}
+
+// m copies or more.
+fn or_more(m: usize, x: Size) -> Size
+    requires { ⌜ (m < 64) × (x .weight ≤ aboveLimit) ⌝ }
+    ensures { λ r. ⌜ Sized r (loadOf (m + 1) (x .weight)) (capped (orMore m (meaning (x .lengths)))) ⌝ }
+{
+    let each = x.lengths;
+    Size {
+        weight: load(m + 1, x.weight),
+        lengths: lengths::or_more(m, each),
+    }
 }
 
 // An empty sequence is a part of its own.
@@ -181,59 +265,59 @@ fn past(s: &[u8], at: usize) -> usize
     at
 }
 
-// The count after an atom that weighs `weight` and whose codes begin at `from`.
-fn counted(s: &[u8], at: usize, weight: usize, a: &mut Codes, len: usize, from: usize) -> Step
-    requires { ⌜ Ready (now s) at × (at < length (now s)) × (getD (now s) at 0 ≡ 123) × (weight ≤ aboveLimit) ⌝ }
-    ensures { λ r. ⌜ RepeatRead (now (s .entry)) at weight (now (a .entry)) len from (now (a .exit)) (r .len) (r .part) ⌝ }
+// The count after an atom of the size x whose codes begin at `from`.
+fn counted(s: &[u8], at: usize, x: Size, a: &mut Codes, len: usize, from: usize) -> Step
+    requires { ⌜ Ready (now s) at × (at < length (now s)) × (getD (now s) at 0 ≡ 123) × (x .weight ≤ aboveLimit) ⌝ }
+    ensures { λ r. ⌜ RepeatRead (now (s .entry)) at x (now (a .entry)) len from (now (a .exit)) (r .len) (r .part) ⌝ }
 {
     let count = scanner::read_count(s, at + 1);
     match count {
         Count::Exactly { times, next } => {
             // nothing is optional here, so the sign has no effect
             let n = tokens::exactly(a, len, from, times);
-            found(past(s, next), load(times, weight), n)
+            found(past(s, next), up_to(times, times, x), n)
         }
         Count::AtLeast { times, next } => {
             let lazy = scanner::has_byte(s, next, SIGN);
             let n = tokens::at_least(a, len, from, times, lazy);
-            found(past(s, next), load(times + 1, weight), n)
+            found(past(s, next), or_more(times, x), n)
         }
         Count::Between { least, most, next } => {
             let lazy = scanner::has_byte(s, next, SIGN);
             let n = tokens::between(a, len, from, least, most, lazy);
-            found(past(s, next), load(most, weight), n)
+            found(past(s, next), up_to(least, most, x), n)
         }
         Count::NoCount => refused(5, at, len),
     }
 }
 
 // The repeat after an atom, or none.
-fn repeat(s: &[u8], at: usize, weight: usize, a: &mut Codes, len: usize, from: usize) -> Step
-    requires { ⌜ Ready (now s) at × (weight ≤ aboveLimit) ⌝ }
-    ensures { λ r. ⌜ RepeatRead (now (s .entry)) at weight (now (a .entry)) len from (now (a .exit)) (r .len) (r .part) ⌝ }
+fn repeat(s: &[u8], at: usize, x: Size, a: &mut Codes, len: usize, from: usize) -> Step
+    requires { ⌜ Ready (now s) at × (x .weight ≤ aboveLimit) ⌝ }
+    ensures { λ r. ⌜ RepeatRead (now (s .entry)) at x (now (a .entry)) len from (now (a .exit)) (r .len) (r .part) ⌝ }
 {
     if at == s.len() {
-        return found(at, weight, len);
+        return found(at, x, len);
     }
     let b = s[at];
     if b == BRACE {
-        return counted(s, at, weight, a, len, from);
+        return counted(s, at, x, a, len, from);
     }
     let next = at + 1;
     let lazy = scanner::has_byte(s, next, SIGN);
     if b == b'*' {
         let n = tokens::star(a, len, from, lazy);
-        return found(past(s, next), weight, n);
+        return found(past(s, next), or_more(0, x), n);
     }
     if b == b'+' {
         let n = tokens::at_least(a, len, from, 1, lazy);
-        return found(past(s, next), load(2, weight), n);
+        return found(past(s, next), or_more(1, x), n);
     }
     if b == b'?' {
         let n = tokens::between(a, len, from, 0, 1, lazy);
-        return found(past(s, next), weight, n);
+        return found(past(s, next), up_to(0, 1, x), n);
     }
-    found(at, weight, len)
+    found(at, x, len)
 }
 
 // A bracket after n others is a field if it is one of the first eight.
@@ -266,7 +350,7 @@ fn escaped(s: &[u8], at: usize, depth: usize, a: &mut Codes, len: usize) -> Step
     }
     if scanner::is_special(s[at + 1]) {
         let n = push_leaf(a, len, at);
-        return found(at + 2, 1, n);
+        return found(at + 2, leaf_size(), n);
     }
     refused(3, at, len)
 }
@@ -281,7 +365,7 @@ fn class_atom(s: &[u8], at: usize, depth: usize, a: &mut Codes, len: usize) -> S
         return refused(4, at, len);
     };
     let n = push_leaf(a, len, at);
-    found(next, 1, n)
+    found(next, leaf_size(), n)
 }
 
 // An atom that is no group.
@@ -298,13 +382,13 @@ fn leaf(s: &[u8], at: usize, depth: usize, a: &mut Codes, len: usize) -> Step
     }
     if b == b'.' {
         let n = push_leaf(a, len, at);
-        return found(at + 1, 1, n);
+        return found(at + 1, leaf_size(), n);
     }
     if scanner::is_special(b) {
         return refused(2, at, len);
     }
     let n = push_leaf(a, len, at);
-    found(at + 1, 1, n)
+    found(at + 1, leaf_size(), n)
 }
 
 // From here on b is the brackets before the place.
@@ -314,28 +398,25 @@ fn alternation(s: &[u8], at: usize, depth: usize, a: &mut Codes, len: usize, b: 
 {
     let first = sequence(s, at, depth, a, len, b);
     let part = first.part;
-    let Part::Read { at: end, weight: w } = part else {
+    let Part::Read { at: end, size: w } = part else {
         return first;
     };
     let d1 = first.len;
     let b1 = first.brackets;
-    let d2 = push_if_empty(a, d1, w);
+    let d2 = push_if_empty(a, d1, w.weight);
     let own = one_at_least(w);
     if end < s.len() {
         if s[end] == b'|' {
             let rest = alternation(s, end + 1, depth, a, d2, b1);
             let more = rest.part;
-            let Part::Read {
-                at: last,
-                weight: v,
-            } = more
+            let Part::Read { at: last, size: v } = more
             else {
                 return rest;
             };
             let d3 = rest.len;
             let b2 = rest.brackets;
             let d4 = tokens::push(a, d3, tokens::ALTERNATION);
-            return walked(found(last, plus(own, v), d4), b2);
+            return walked(found(last, one_of(own, v), d4), b2);
         }
     }
     walked(found(end, own, d2), b1)
@@ -346,45 +427,39 @@ fn sequence(s: &[u8], at: usize, depth: usize, a: &mut Codes, len: usize, b: Bra
     ensures { λ r. ⌜ SequenceRead (now (s .entry)) at depth (now (a .entry)) len (now (a .exit)) (r .len) b (r .brackets) (r .part) ⌝ }
 {
     if at == s.len() {
-        return walked(found(at, 0, len), b);
+        return walked(found(at, no_part(), len), b);
     }
     let c = s[at];
     if c == b'|' {
-        return walked(found(at, 0, len), b);
+        return walked(found(at, no_part(), len), b);
     }
     if c == b')' {
-        return walked(found(at, 0, len), b);
+        return walked(found(at, no_part(), len), b);
     }
     let first = atom(s, at, depth, a, len, b);
     let part = first.part;
-    let Part::Read { at: end, weight: w } = part else {
+    let Part::Read { at: end, size: w } = part else {
         return first;
     };
     let d1 = first.len;
     let b1 = first.brackets;
     let again = repeat(s, end, w, a, d1, len);
     let repeated = again.part;
-    let Part::Read {
-        at: next,
-        weight: v,
-    } = repeated
+    let Part::Read { at: next, size: v } = repeated
     else {
         return walked(again, b1);
     };
     let d2 = again.len;
     let rest = sequence(s, next, depth, a, d2, b1);
     let more = rest.part;
-    let Part::Read {
-        at: last,
-        weight: u,
-    } = more
+    let Part::Read { at: last, size: u } = more
     else {
         return rest;
     };
     let d3 = rest.len;
     let b2 = rest.brackets;
-    let d4 = push_if_more(a, d3, u);
-    walked(found(last, plus(v, u), d4), b2)
+    let d4 = push_if_more(a, d3, u.weight);
+    walked(found(last, in_row(v, u), d4), b2)
 }
 
 fn atom(s: &[u8], at: usize, depth: usize, a: &mut Codes, len: usize, b: Brackets) -> Walk
@@ -400,7 +475,7 @@ fn atom(s: &[u8], at: usize, depth: usize, a: &mut Codes, len: usize, b: Bracket
     }
     let inner = alternation(s, at + 1, depth + 1, a, len, opened(b, at));
     let part = inner.part;
-    let Part::Read { at: end, weight: w } = part else {
+    let Part::Read { at: end, size: w } = part else {
         return inner;
     };
     let d = inner.len;
@@ -422,14 +497,14 @@ fn judged(s: &[u8], part: Part) -> Answer
             number: number,
             place: place,
         },
-        Part::Read { at: end, weight: w } => {
+        Part::Read { at: end, size: w } => {
             if end < s.len() {
                 return Answer::Refused {
                     number: 2,
                     place: end,
                 };
             }
-            if Pattern::MAX_WEIGHT < w {
+            if Pattern::MAX_WEIGHT < w.weight {
                 return Answer::Refused {
                     number: 8,
                     place: end,
@@ -438,6 +513,16 @@ fn judged(s: &[u8], part: Part) -> Answer
             Answer::Accepted
         }
     }
+}
+
+// How long the matches of what was found can be.
+fn lengths_of(part: Part) -> Lengths
+    ensures { λ r. ⌜ meaning r ≡ lengthsBy part ⌝ }
+{
+    let Part::Read { at: end, size: w } = part else {
+        return lengths::nothing();
+    };
+    w.lengths
 }
 
 // Reads a pattern of any bytes and any length.
@@ -453,6 +538,7 @@ pub fn read(s: &[u8]) -> Reading
             },
             pattern: nothing,
             brackets: no_brackets(),
+            lengths: lengths::nothing(),
         };
     }
     let mut codes = [0u16; Pattern::MAX_PARTS];
@@ -465,6 +551,7 @@ pub fn read(s: &[u8]) -> Reading
             answer: answer,
             pattern: nothing,
             brackets: no_brackets(),
+            lengths: lengths::nothing(),
         };
     };
     let n = whole.len;
@@ -474,5 +561,6 @@ pub fn read(s: &[u8]) -> Reading
         answer: answer,
         pattern: pattern,
         brackets: brackets,
+        lengths: lengths_of(part),
     }
 }

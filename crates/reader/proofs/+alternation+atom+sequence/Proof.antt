@@ -7,7 +7,8 @@ use Prim.Native.Nat.{ℕ, _+_, _*_, _-_, _<_}
 use lib.ListN.{length}
 use Rattle.theory.proofs.Tests.{either}
 use Rattle.reader.specs.Steps.{found-part, found-fault}
-use Rattle.reader.proofs.Weights.{weighs-65, atom-heaviest}
+use Rattle.reader.proofs.Weights.{atom-heaviest}
+use Rattle.reader.proofs.Sizes.{size-65}
 use Rattle.reader.proofs.Begins.{depth-max, begun-bar, begun-open, ready-atom, begun-part, fault-deep, fault-open}
 use Rattle.reader.proofs.Finds.{passed-on, known, single, sequence-stop, sequence-part, alternation-last, alternation-or, group-here}
 use borrow.Fn.Kinds.{In}
@@ -23,8 +24,10 @@ use Rattle.reader.proofs.sequence.Kinds as sequence-kinds
 use Rattle.reader.proofs.+alternation+atom+sequence.Lts-sequence as sequence-lts
 use Rattle.reader.proofs.found.Reads as found-reads
 use Rattle.reader.proofs.leaf.Reads as leaf-reads
+use Rattle.reader.proofs.in_row.Reads as in-row-reads
+use Rattle.reader.proofs.no_part.Reads as no-part-reads
 use Rattle.reader.proofs.one_at_least.Reads as one-at-least-reads
-use Rattle.reader.proofs.plus.Reads as plus-reads
+use Rattle.reader.proofs.one_of.Reads as one-of-reads
 use Rattle.reader.proofs.opened.Reads as opened-reads
 use Rattle.reader.proofs.push_field.Reads as push-field-reads
 use Rattle.reader.proofs.push_if_empty.Reads as push-if-empty-reads
@@ -67,13 +70,13 @@ sequence-below t =
     and 2 sequence-kinds.ps (falls 2 sequence-kinds.ps _<_ μ-sequence t) sequence.Pre
 
 abbrev callees-alternation : ℕ → alternation-lts.Claims
-callees-alternation t = (sequence-below t, sequence.Post, push-if-empty-reads.Asked, push-if-empty-reads.Learnt, one-at-least-reads.Asked, one-at-least-reads.Learnt, alternation-below t, alternation.Post, push-reads.Asked, push-reads.Learnt, plus-reads.Asked, plus-reads.Learnt, found-reads.Asked, found-reads.Learnt, walked-reads.Asked, walked-reads.Learnt)
+callees-alternation t = (sequence-below t, sequence.Post, push-if-empty-reads.Asked, push-if-empty-reads.Learnt, one-at-least-reads.Asked, one-at-least-reads.Learnt, alternation-below t, alternation.Post, push-reads.Asked, push-reads.Learnt, one-of-reads.Asked, one-of-reads.Learnt, found-reads.Asked, found-reads.Learnt, walked-reads.Asked, walked-reads.Learnt)
 
 abbrev callees-atom : ℕ → atom-lts.Claims
 callees-atom t = (leaf-reads.Asked, leaf-reads.Learnt, walked-reads.Asked, walked-reads.Learnt, refused-reads.Asked, refused-reads.Learnt, opened-reads.Asked, opened-reads.Learnt, alternation-below t, alternation.Post, push-field-reads.Asked, push-field-reads.Learnt, found-reads.Asked, found-reads.Learnt)
 
 abbrev callees-sequence : ℕ → sequence-lts.Claims
-callees-sequence t = (found-reads.Asked, found-reads.Learnt, walked-reads.Asked, walked-reads.Learnt, atom-below t, atom.Post, repeat-reads.Asked, repeat-reads.Learnt, sequence-below t, sequence.Post, push-if-more-reads.Asked, push-if-more-reads.Learnt, plus-reads.Asked, plus-reads.Learnt)
+callees-sequence t = (no-part-reads.Asked, no-part-reads.Learnt, found-reads.Asked, found-reads.Learnt, walked-reads.Asked, walked-reads.Learnt, atom-below t, atom.Post, repeat-reads.Asked, repeat-reads.Learnt, sequence-below t, sequence.Post, push-if-more-reads.Asked, push-if-more-reads.Learnt, in-row-reads.Asked, in-row-reads.Learnt)
 
 alternation-sequence-requires : (t : ℕ) → alternation-lts.Need-sequence-requires (callees-alternation t) (alternation-at t) alternation.Post
 alternation-sequence-requires t c κs =
@@ -100,14 +103,14 @@ alternation-returns-2 t c =
     let c2 = c .before .before in
     passed-on _ (c .enum-told2 .given .1) (c2 .alternation .ensures)
 
-alternation-plus-requires : (t : ℕ) → alternation-lts.Need-plus-requires (callees-alternation t) (alternation-at t) alternation.Post
-alternation-plus-requires t c κs =
+alternation-one-of-requires : (t : ℕ) → alternation-lts.Need-one-of-requires (callees-alternation t) (alternation-at t) alternation.Post
+alternation-one-of-requires t c κs =
     let c4 = c .before .before .before .before in
     let c6 = c4 .before .before in
     let c11 = c6 .before .before .before .before .before in
     let c16 = c11 .before .before .before .before .before in
     let c18 = c16 .before .before in
-    omega (arith, weighs-65 ((known (c16 .part .given .1) (c18 .sequence .ensures)) .load), weighs-65 ((known (c4 .more .given .1) (c6 .alternation .ensures)) .load), c11 .one-at-least .ensures)
+    omega (arith, size-65 ((known (c16 .part .given .1) (c18 .sequence .ensures)) .size), size-65 ((known (c4 .more .given .1) (c6 .alternation .ensures)) .size), c11 .one-at-least .ensures .weighs)
 
 alternation-returns-3 : (t : ℕ) → alternation-lts.Need-returns-3 (callees-alternation t) (alternation-at t) alternation.Post
 alternation-returns-3 t c =
@@ -122,7 +125,7 @@ alternation-returns-3 t c =
     let c15 = c14 .before in
     let c19 = c15 .before .before .before .before in
     let c21 = c19 .before .before in
-    rw (c .walked .ensures, c1 .found .ensures) (found-part (alternation-or _ _ (known (c19 .part .given .1) (c21 .sequence .ensures)) (c15 .push-if-empty .ensures .added) (c15 .push-if-empty .ensures .kept) (c14 .one-at-least .ensures) (c13 .if1 .taken) (c11 .if2 .taken) (known (c7 .more .given .1) (c9 .alternation .ensures)) (c3 .push .ensures) (c2 .plus .ensures)))
+    rw (c .walked .ensures, c1 .found .ensures) (found-part (alternation-or _ _ (known (c19 .part .given .1) (c21 .sequence .ensures)) (c15 .push-if-empty .ensures .added) (c15 .push-if-empty .ensures .kept) (c14 .one-at-least .ensures) (c13 .if1 .taken) (c11 .if2 .taken) (known (c7 .more .given .1) (c9 .alternation .ensures)) (c3 .push .ensures) (c2 .one-of .ensures)))
 
 alternation-returns-4 : (t : ℕ) → alternation-lts.Need-returns-4 (callees-alternation t) (alternation-at t) alternation.Post
 alternation-returns-4 t c =
@@ -207,22 +210,25 @@ atom-returns-5 t c =
 sequence-returns : (t : ℕ) → sequence-lts.Need-returns (callees-sequence t) (sequence-at t) sequence.Post
 sequence-returns t c =
     let c1 = c .before in
-    let c4 = c1 .before .before .before in
-    rw (c .walked .ensures, c1 .found .ensures) (found-part (sequence-stop (c4 .pre .1 .0) (λ l n. absurd (omega arith))))
+    let c2 = c1 .before in
+    let c5 = c2 .before .before .before in
+    rw (c .walked .ensures, c1 .found .ensures) (found-part (sequence-stop (c2 .no-part .ensures) (c5 .pre .1 .0) (λ l n. absurd (omega arith))))
 
 sequence-returns-2 : (t : ℕ) → sequence-lts.Need-returns-2 (callees-sequence t) (sequence-at t) sequence.Post
 sequence-returns-2 t c =
     let c1 = c .before in
     let c2 = c1 .before in
-    let c6 = c2 .before .before .before .before in
-    rw (c .walked2 .ensures, c1 .found2 .ensures) (found-part (sequence-stop (c6 .pre .1 .0) (λ l n. absurd (n (c2 .if2 .taken)))))
+    let c3 = c2 .before in
+    let c7 = c3 .before .before .before .before in
+    rw (c .walked2 .ensures, c1 .found2 .ensures) (found-part (sequence-stop (c2 .no-part2 .ensures) (c7 .pre .1 .0) (λ l n. absurd (n (c3 .if2 .taken)))))
 
 sequence-returns-3 : (t : ℕ) → sequence-lts.Need-returns-3 (callees-sequence t) (sequence-at t) sequence.Post
 sequence-returns-3 t c =
     let c1 = c .before in
     let c2 = c1 .before in
-    let c7 = c2 .before .before .before .before .before in
-    rw (c .walked3 .ensures, c1 .found3 .ensures) (found-part (sequence-stop (c7 .pre .1 .0) (λ l n. c2 .if3 .taken)))
+    let c3 = c2 .before in
+    let c8 = c3 .before .before .before .before .before in
+    rw (c .walked3 .ensures, c1 .found3 .ensures) (found-part (sequence-stop (c2 .no-part3 .ensures) (c8 .pre .1 .0) (λ l n. c3 .if3 .taken)))
 
 sequence-atom-requires : (t : ℕ) → sequence-lts.Need-atom-requires (callees-sequence t) (sequence-at t) sequence.Post
 sequence-atom-requires t c κs =
@@ -242,7 +248,7 @@ sequence-repeat-requires t c κs =
     let c5 = c3 .before .before in
     let c12 = c5 .before .before .before .before .before .before .before in
     let a = (known (c3 .part .given .1) (c5 .atom .ensures)) in
-    (ready-atom (c12 .pre .1 .0) a, weighs-65 (a .load))
+    (ready-atom (c12 .pre .1 .0) a, size-65 (a .size))
 
 sequence-returns-5 : (t : ℕ) → sequence-lts.Need-returns-5 (callees-sequence t) (sequence-at t) sequence.Post
 sequence-returns-5 t c =
@@ -266,8 +272,8 @@ sequence-returns-6 t c =
     let c2 = c .before .before in
     passed-on _ (c .enum-told3 .given .1) (c2 .sequence .ensures)
 
-sequence-plus-requires : (t : ℕ) → sequence-lts.Need-plus-requires (callees-sequence t) (sequence-at t) sequence.Post
-sequence-plus-requires t c κs =
+sequence-in-row-requires : (t : ℕ) → sequence-lts.Need-in-row-requires (callees-sequence t) (sequence-at t) sequence.Post
+sequence-in-row-requires t c κs =
     let c4 = c .before .before .before .before in
     let c6 = c4 .before .before in
     let c9 = c6 .before .before .before in
@@ -275,7 +281,7 @@ sequence-plus-requires t c κs =
     let c15 = c11 .before .before .before .before in
     let c17 = c15 .before .before in
     let a = (known (c15 .part .given .1) (c17 .atom .ensures)) in
-    (weighs-65 ((known (c9 .repeated .given .1) (c11 .repeat .ensures)) .load _ _ (atom-heaviest (a .x)) (a .load)), weighs-65 ((known (c4 .more .given .1) (c6 .sequence .ensures)) .load))
+    (size-65 ((known (c9 .repeated .given .1) (c11 .repeat .ensures)) .size _ _ _ (atom-heaviest (a .x)) (a .size)), size-65 ((known (c4 .more .given .1) (c6 .sequence .ensures)) .size))
 
 sequence-returns-7 : (t : ℕ) → sequence-lts.Need-returns-7 (callees-sequence t) (sequence-at t) sequence.Post
 sequence-returns-7 t c =
@@ -288,7 +294,7 @@ sequence-returns-7 t c =
     let c14 = c12 .before .before in
     let c18 = c14 .before .before .before .before in
     let c20 = c18 .before .before in
-    rw (c .walked5 .ensures, c1 .found4 .ensures) (found-part (sequence-part _ (known (c18 .part .given .1) (c20 .atom .ensures)) (known (c12 .repeated .given .1) (c14 .repeat .ensures)) (known (c7 .more .given .1) (c9 .sequence .ensures)) (c3 .push-if-more .ensures .added) (λ e. c3 .push-if-more .ensures .kept (λ n. n e)) (c2 .plus .ensures)))
+    rw (c .walked5 .ensures, c1 .found4 .ensures) (found-part (sequence-part _ (known (c18 .part .given .1) (c20 .atom .ensures)) (known (c12 .repeated .given .1) (c14 .repeat .ensures)) (known (c7 .more .given .1) (c9 .sequence .ensures)) (c3 .push-if-more .ensures .added) (λ e. c3 .push-if-more .ensures .kept (λ n. n e)) (c2 .in-row .ensures)))
 
 pub +alternation+atom+sequence-spec : {M : Type 1} → statement M
 +alternation+atom+sequence-spec = close μ-alternation μ-atom μ-sequence (λ t. alternation-lts.spec (callees-alternation t) (alternation-at t)
@@ -306,7 +312,7 @@ pub +alternation+atom+sequence-spec : {M : Type 1} → statement M
     (λ c. search needs)
     (alternation-returns-2 t)
     (λ c κs. search needs)
-    (alternation-plus-requires t)
+    (alternation-one-of-requires t)
     (λ c κs. search needs)
     (λ c κs. search needs)
     (alternation-returns-3 t)
@@ -341,11 +347,14 @@ pub +alternation+atom+sequence-spec : {M : Type 1} → statement M
     sequence.Post
     (λ c κs. search needs)
     (λ c κs. search needs)
+    (λ c κs. search needs)
     (sequence-returns t)
     (λ c. search needs)
     (λ c κs. search needs)
     (λ c κs. search needs)
+    (λ c κs. search needs)
     (sequence-returns-2 t)
+    (λ c κs. search needs)
     (λ c κs. search needs)
     (λ c κs. search needs)
     (sequence-returns-3 t)
@@ -363,7 +372,7 @@ pub +alternation+atom+sequence-spec : {M : Type 1} → statement M
     (λ c. search needs)
     (sequence-returns-6 t)
     (λ c κs. search needs)
-    (sequence-plus-requires t)
+    (sequence-in-row-requires t)
     (λ c κs. search needs)
     (λ c κs. search needs)
     (sequence-returns-7 t)

@@ -27,9 +27,9 @@ push-leaf-requires c κs = omega (arith, c .before .before .before .before .befo
 
 returns-2 : tie.Need-returns-2
 returns-2 c =
-    let c4 = c .before .before .before .before in
-    let c8 = c4 .before .before .before .before in
-    rw (c .found .ensures) (found-part (let (a, f, o) = class-ends _ _ _ (c4 .class .given .1) (c4 .before .before .read-class .ensures) in λ g. class-here (c8 .pre .0) (c8 .pre .1) (c .before .push-leaf .ensures) g a (c8 .pre .2) f o))
+    let c5 = c .before .before .before .before .before in
+    let c9 = c5 .before .before .before .before in
+    rw (c .found .ensures) (found-part (let (a, f, o) = class-ends _ _ _ (c5 .class .given .1) (c5 .before .before .read-class .ensures) in λ g. class-here (c9 .pre .0) (c9 .pre .1) (c .before .before .push-leaf .ensures) (c .before .leaf-size .ensures) g a (c9 .pre .2) f o))
 
 pub class-atom-spec : {M : Type 1} → statement M
 class-atom-spec =
@@ -42,5 +42,6 @@ class-atom-spec =
     (λ c κs. search needs)
     returns
     push-leaf-requires
+    (λ c κs. search needs)
     (λ c κs. search needs)
     returns-2)

@@ -10,25 +10,20 @@ use borrow.Author.Needs.{needs}
 use Rattle.reader.proofs.counted.Statement.{statement}
 use Rattle.reader.proofs.counted.Tie as tie
 
-load-requires : tie.Need-load-requires
-load-requires c κs =
+up-to-requires : tie.Need-up-to-requires
+up-to-requires c κs =
     let c4 = c .before .before .before .before in
-    omega (arith, exactly-63 _ _ _ (c4 .count .given .1) (c4 .before .before .read-count .ensures))
+    (omega (arith, exactly-63 _ _ _ (c4 .count .given .1) (c4 .before .before .read-count .ensures)), c4 .before .before .before .before .pre .3)
 
-add-load : tie.Need-add-load
-add-load c =
+or-more-requires : tie.Need-or-more-requires
+or-more-requires c κs =
     let c5 = c .before .before .before .before .before in
-    omega (arith, atLeast-63 _ _ _ (c5 .count2 .given .1) (c5 .before .before .read-count .ensures))
+    (omega (arith, atLeast-63 _ _ _ (c5 .count2 .given .1) (c5 .before .before .read-count .ensures)), c5 .before .before .before .before .pre .3)
 
-load-requires-2 : tie.Need-load-requires-2
-load-requires-2 c κs =
+up-to-requires-2 : tie.Need-up-to-requires-2
+up-to-requires-2 c κs =
     let c5 = c .before .before .before .before .before in
-    omega (arith, atLeast-63 _ _ _ (c5 .count2 .given .1) (c5 .before .before .read-count .ensures))
-
-load-requires-3 : tie.Need-load-requires-3
-load-requires-3 c κs =
-    let c5 = c .before .before .before .before .before in
-    omega (arith, between-63 _ _ _ (c5 .count3 .given .1) (c5 .before .before .read-count .ensures))
+    (omega (arith, between-63 _ _ _ (c5 .count3 .given .1) (c5 .before .before .read-count .ensures)), c5 .before .before .before .before .pre .3)
 
 returns : tie.Need-returns
 returns c =
@@ -36,7 +31,7 @@ returns c =
     let c6 = c3 .before .before .before in
     let s = c6 .before .before .before .before in
     let (d, f, g, o) = count-exactly _ _ _ (c6 .count .given .1) (c6 .before .before .read-count .ensures) in
-    rw (c .found .ensures, c .before .before .past .ensures) (found-part (exactly-here (s .pre .1) (s .pre .2) o _ refl d _ _ f g (c .before .load .ensures) (c3 .exactly .ensures)))
+    rw (c .found .ensures, c .before .before .past .ensures) (found-part (exactly-here (s .pre .1) (s .pre .2) o _ refl d _ f g (c .before .up-to .ensures) (c3 .exactly .ensures)))
 
 returns-2 : tie.Need-returns-2
 returns-2 c =
@@ -45,7 +40,7 @@ returns-2 c =
     let s = c7 .before .before .before .before in
     let (d, f, g, o) = count-atLeast _ _ _ (c7 .count2 .given .1) (c7 .before .before .read-count .ensures) in
     rw (c .found2 .ensures, c .before .before .past2 .ensures)
-    (found-part (atLeast-here (s .pre .1) (s .pre .2) o _ (c3 .before .before .has-byte .ensures) d _ _ f g (c .before .load2 .ensures) (c3 .at-least .ensures)))
+    (found-part (atLeast-here (s .pre .1) (s .pre .2) o _ (c3 .before .before .has-byte .ensures) d _ f g (c .before .or-more .ensures) (c3 .at-least .ensures)))
 
 returns-3 : tie.Need-returns-3
 returns-3 c =
@@ -54,7 +49,7 @@ returns-3 c =
     let s = c7 .before .before .before .before in
     let (d, d′, f, g, g′, o) = count-between _ _ _ (c7 .count3 .given .1) (c7 .before .before .read-count .ensures) in
     rw (c .found3 .ensures, c .before .before .past3 .ensures)
-    (found-part (between-here (s .pre .1) (s .pre .2) o _ (c3 .before .before .has-byte2 .ensures) d d′ _ _ _ f g g′ (c .before .load3 .ensures) (c3 .between .ensures)))
+    (found-part (between-here (s .pre .1) (s .pre .2) o _ (c3 .before .before .has-byte2 .ensures) d d′ _ _ f g g′ (c .before .up-to2 .ensures) (c3 .between .ensures)))
 
 returns-4 : tie.Need-returns-4
 returns-4 c =
@@ -71,20 +66,19 @@ counted-spec =
     (λ c. search needs)
     (λ c κs. search needs)
     (λ c κs. search needs)
-    load-requires
+    up-to-requires
     (λ c κs. search needs)
     (λ c. search needs)
     (λ c κs. search needs)
     (λ c κs. search needs)
     (λ c κs. search needs)
-    add-load
-    load-requires-2
+    or-more-requires
     (λ c κs. search needs)
     (λ c. search needs)
     (λ c κs. search needs)
     (λ c κs. search needs)
     (λ c κs. search needs)
-    load-requires-3
+    up-to-requires-2
     (λ c κs. search needs)
     (λ c. search needs)
     (λ c κs. search needs)

@@ -23,10 +23,10 @@ push-leaf-requires c κs = omega (arith, c .before .before .before .before .befo
 
 returns-2 : tie.Need-returns-2
 returns-2 c =
-    let c3 = c .before .before .before in
-    let c6 = c3 .before .before .before in
-    let c8 = c6 .before .before in
-    rw (c .found .ensures) (found-part (λ g. escaped-here (c8 .pre .0) (c8 .pre .1) (c .before .push-leaf .ensures) g (c8 .pre .2) (c6 .if1 .left) (sym (c3 .if2 .taken) ∙ c3 .before .is-special .ensures)))
+    let c4 = c .before .before .before .before in
+    let c7 = c4 .before .before .before in
+    let c9 = c7 .before .before in
+    rw (c .found .ensures) (found-part (λ g. escaped-here (c9 .pre .0) (c9 .pre .1) (c .before .before .push-leaf .ensures) (c .before .leaf-size .ensures) g (c9 .pre .2) (c7 .if1 .left) (sym (c4 .if2 .taken) ∙ c4 .before .is-special .ensures)))
 
 returns-3 : tie.Need-returns-3
 returns-3 c =
@@ -46,6 +46,7 @@ escaped-spec =
     (λ c κs. search needs)
     push-leaf-requires
     (λ c. search needs)
+    (λ c κs. search needs)
     (λ c κs. search needs)
     returns-2
     (λ c κs. search needs)

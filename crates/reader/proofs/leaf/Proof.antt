@@ -18,7 +18,10 @@ use Rattle.reader.proofs.refused.Reads as refused-reads
 use Rattle.scanner.proofs.is_special.Reads as is-special-reads
 
 returns-3 : tie.Need-returns-3
-returns-3 c = rw (c .found .ensures) (found-part (λ g. dot-here (c .before .before .before .before .before .before .before .before .pre .0) (c .before .before .before .before .before .before .before .before .pre .1 .before) (c .before .push-leaf .ensures) g (c .before .before .before .if3 .taken)))
+returns-3 c =
+    let c4 = c .before .before .before .before in
+    let c9 = c4 .before .before .before .before .before in
+    rw (c .found .ensures) (found-part (λ g. dot-here (c9 .pre .0) (c9 .pre .1 .before) (c .before .before .push-leaf .ensures) (c .before .leaf-size .ensures) g (c4 .if3 .taken)))
 
 returns-4 : tie.Need-returns-4
 returns-4 c =
@@ -28,9 +31,9 @@ returns-4 c =
 
 returns-5 : tie.Need-returns-5
 returns-5 c =
-    let c3 = c .before .before .before in
-    let c10 = c3 .before .before .before .before .before .before .before in
-    rw (c .found2 .ensures) (found-part (λ g. plain-here (c10 .pre .0) (c10 .pre .1 .before) (c .before .push-leaf2 .ensures) g (sym (c3 .if4 .left) ∙ c3 .before .is-special .ensures)))
+    let c4 = c .before .before .before .before in
+    let c11 = c4 .before .before .before .before .before .before .before in
+    rw (c .found2 .ensures) (found-part (λ g. plain-here (c11 .pre .0) (c11 .pre .1 .before) (c .before .before .push-leaf2 .ensures) (c .before .leaf-size2 .ensures) g (sym (c4 .if4 .left) ∙ c4 .before .is-special .ensures)))
 
 pub leaf-spec : {M : Type 1} → statement M
 leaf-spec =
@@ -44,11 +47,13 @@ leaf-spec =
     (λ c κs. search needs)
     (λ c. search needs)
     (λ c κs. search needs)
+    (λ c κs. search needs)
     returns-3
     (λ c κs. search needs)
     (λ c κs. search needs)
     returns-4
     (λ c κs. search needs)
     (λ c. search needs)
+    (λ c κs. search needs)
     (λ c κs. search needs)
     returns-5)

@@ -1,0 +1,71 @@
+-- Request 6 for an accepted pattern p, whose tree is t.
+-- Assumes nothing.
+use mathlib.Core.Path.{_≡_, refl, ap, _∙_, subst, subst₂}
+use Prim.Native.Nat.{ℕ, _≤_, _<_}
+use mathlib.Core.List.{List}
+use native.Mathlib.Omega.{arith}
+use lib.ListN.{length}
+use Rattle.theory.specs.Lines.{Below}
+use Rattle.theory.specs.Matching.{Matches}
+use Rattle.theory.specs.Spans.{Span, span, greedy, posix}
+use Rattle.grammar.specs.Grammar.{Alternation}
+use Rattle.grammar.specs.Limits.{Reads}
+use Rattle.grammar.specs.WriteOut.{writeOut}
+use Rattle.grammar.proofs.Size.{leaves-64}
+use Rattle.lengths.specs.Lengths.{Longest, limit, noLimit, least, greatest, LengthBetween}
+use Rattle.lengths.specs.Code.{lengths, capLongest, capped}
+use Rattle.lengths.specs.Written.{shortest, longest, Filled, Reached}
+use Rattle.lengths.proofs.Capped.{both}
+use Rattle.lengths.proofs.Written.{least-written, greatest-written}
+use Rattle.lengths.proofs.Bounds.{match-between, greedy-between, posix-between, shortest-count, longest-count}
+use Rattle.lengths.proofs.Reached.{least-reached, greatest-reached, posix-whole, greedy-whole}
+
+module _ (p : List ℕ) (t : Alternation) (a : Reads p t) where
+  longest-is : {g : Longest} → greatest t ≡ g → longest (writeOut t) ≡ g
+  longest-is e = greatest-written t (a .formed) ∙ e
+
+  between : (s : Span) → LengthBetween (shortest (writeOut t)) (longest (writeOut t)) s → LengthBetween (least t) (greatest t) s
+  between s h = subst₂ (λ l g. LengthBetween l g s) (least-written t) (greatest-written t (a .formed)) h
+
+  -- EVERY MATCH OF FIG. 1 HAS A LENGTH BETWEEN THE TWO,
+  pub match-length : (w : List ℕ) (i j : ℕ) → Matches w (writeOut t) i j → LengthBetween (least t) (greatest t) (span i j)
+  match-length w i j m = between (span i j) (match-between m)
+
+  -- and so "EVERY SPAN OF EITHER READING HAS A LENGTH BETWEEN THE TWO."
+  pub greedy-length : (w : List ℕ) → LengthBetween (least t) (greatest t) (greedy (writeOut t) w)
+  greedy-length w = between (greedy (writeOut t) w) (greedy-between (writeOut t) w)
+
+  pub posix-length : (w : List ℕ) → LengthBetween (least t) (greatest t) (posix (writeOut t) w)
+  posix-length w = between (posix (writeOut t) w) (posix-between (writeOut t) w)
+
+  -- No number is above the weight's limit.
+  pub least-64 : least t ≤ 64
+  least-64 = omega (arith, least-written t, shortest-count (writeOut t), leaves-64 p t a)
+
+  pub greatest-64 : (M : ℕ) → greatest t ≡ limit M → M ≤ 64
+  greatest-64 M e = omega (arith, longest-count (writeOut t) M (longest-is e), leaves-64 p t a)
+
+  -- So they are what the code counts.
+  pub counted-whole : capped (lengths t) ≡ lengths t
+  counted-whole = both (omega (arith, least-64)) (go (greatest t) refl)
+    where
+      go : (g : Longest) → greatest t ≡ g → capLongest g ≡ g
+      go noLimit e = refl
+      go (limit M) e = ap limit (omega (arith, greatest-64 M e))
+
+  -- Both are reached, if each leaf's set holds some byte.
+  module _ (f : Filled (writeOut t)) where
+    pub least-line : (w : List ℕ) × Below 256 w × (greedy (writeOut t) w ≡ span 0 (least t)) × (posix (writeOut t) w ≡ span 0 (least t))
+    least-line =
+        let m = least-reached (writeOut t) f in
+        let e : length (m .line) ≡ least t = m .size ∙ least-written t in
+        (m .line, m .bytes, greedy-whole (writeOut t) (m .line) (m .whole) (m .size) ∙ ap (span 0) e, posix-whole (writeOut t) (m .line) (m .whole) ∙ ap (span 0) e)
+
+    reached : {g : Longest} → greatest t ≡ g → Reached g (writeOut t)
+    reached e = subst (λ g. Reached g (writeOut t)) (longest-is e) (greatest-reached (writeOut t) f)
+
+    pub greatest-line : (M : ℕ) → greatest t ≡ limit M → (w : List ℕ) × Below 256 w × (posix (writeOut t) w ≡ span 0 M)
+    greatest-line M e = let m = reached e in (m .line, m .bytes, posix-whole (writeOut t) (m .line) (m .whole) ∙ ap (span 0) (m .size))
+
+    pub longer-lines : greatest t ≡ noLimit → (k : ℕ) → (w : List ℕ) × (j : ℕ) × Below 256 w × (k < j) × (posix (writeOut t) w ≡ span 0 j)
+    longer-lines e k = let m = reached e k in (m .line, length (m .line), m .bytes, m .size, posix-whole (writeOut t) (m .line) (m .whole))

@@ -1,0 +1,48 @@
+-- The least and the greatest length of a written-out pattern (`least-written`, `greatest-written`: those of its tree), and lines that reach them.
+-- Assumes nothing.
+use mathlib.Core.Path.{_≡_}
+use Prim.Native.Nat.{ℕ, _+_, _<_, min}
+use mathlib.Core.List.{List}
+use lib.ListN.{length}
+use lib.Dec.{T}
+use Rattle.theory.specs.Pattern.{Re, empty, leaf, seq, alt, star, field}
+use Rattle.theory.specs.Lines.{Below}
+use Rattle.theory.specs.Matching.{Matches}
+use Rattle.lengths.specs.Lengths.{Longest, limit, noLimit, plus, greater, endless}
+
+unfoldable pub shortest : Re → ℕ
+shortest empty = 0
+shortest (leaf p s) = 1
+shortest (seq x y) = shortest x + shortest y
+shortest (alt x y) = min (shortest x) (shortest y)
+shortest (star how x) = 0
+shortest (field f x) = shortest x
+
+unfoldable pub longest : Re → Longest
+longest empty = limit 0
+longest (leaf p s) = limit 1
+longest (seq x y) = plus (longest x) (longest y)
+longest (alt x y) = greater (longest x) (longest y)
+longest (star how x) = endless (longest x)
+longest (field f x) = longest x
+
+-- Each leaf's set holds some byte.
+abbrev pub Filled : Re → Type 0
+Filled empty = Unit {0}
+Filled (leaf p s) = (b : ℕ) × (b < 256) × T (s b)
+Filled (seq x y) = Filled x × Filled y
+Filled (alt x y) = Filled x × Filled y
+Filled (star how x) = Filled x
+Filled (field f x) = Filled x
+
+-- Some line of bytes is matched as a whole, and P holds of its length.
+pub record Matched (r : Re) (P : ℕ → Type 0) : Type 0 where
+  pub line : List ℕ
+  pub bytes : Below 256 line
+  pub whole : Matches line r 0 (length line)
+  pub size : P (length line)
+
+-- A greatest length is reached; with "no limit", there are matches longer than any number.
+abbrev pub Reached : Longest → Re → Type 0
+Reached (limit M) r = Matched r (λ n. n ≡ M)
+Reached noLimit r = (k : ℕ) → Matched r (λ n. k < n)
