@@ -9,7 +9,7 @@ use native.Mathlib.Omega.{arith}
 use native.Mathlib.Decide.{decLt}
 use lib.ListN.{length, take, length-take}
 use lib.Seq.{take-all}
-use Rattle.grammar.specs.Refusals.{Fault, tooLong}
+use Rattle.grammar.specs.Refusals.{Fault, tooLong, Right}
 use Rattle.grammar.specs.Refusals as Due
 use Rattle.grammar.proofs.Unique.{right-unique}
 use Rattle.grammar.proofs.Right.{not-both}
@@ -23,9 +23,9 @@ use Rattle.search.specs.declared.Looking.{Looking}
 use Rattle.lines.specs.Lines.{kept}
 use Rattle.answers.specs.Line.{AnswerLine}
 use Rattle.answers.specs.declared.Asked.{Asked}
-use Rattle.answers.specs.declared.Asked.the-variants.{Spans, Groups}
+use Rattle.answers.specs.declared.Asked.the-variants.{Spans, Details, Groups}
 use Rattle.answers.specs.declared.Asked.the-variants as Asked
-use Rattle.answers.specs.Answer.{Judged, Reported, GroupsText, Listed, Answer}
+use Rattle.answers.specs.Answer.{Judged, Reported, LengthsAhead, Detailed, GroupsText, Listed, Answer}
 
 too-long : (p : List ℕ) → 255 < length p → Fault p 1 255
 too-long p h = tooLong h refl refl
@@ -61,15 +61,30 @@ module _ (x y : List ℕ × List ℕ) {p q : List ℕ} (h : 255 < length p) (k :
         text = a .text;
       }
 
-long-listed : {p q w : List ℕ} → 255 < length p → 255 < length q → Listed p w → Listed q w
-long-listed {p} {q} {w} h k a =
-    let one : a .answer ≡ Due.refused 1 255 = sym (right-unique p (a .answer) (a .right)) ∙ right-unique p (Due.refused 1 255) (too-long p h) in
-    record { answer = Due.refused 1 255; right = too-long q k; line = subst (λ z. GroupsText z w) one (a .line) }
+long-one : (p : List ℕ) → 255 < length p → (a : Due.Answer) → Right p a → a ≡ Due.refused 1 255
+long-one p h a r = sym (right-unique p a r) ∙ right-unique p (Due.refused 1 255) (too-long p h)
+
+module _ {p q : List ℕ} (h : 255 < length p) (k : 255 < length q) where
+  long-listed : {w : List ℕ} → Listed p w → Listed q w
+  long-listed {w} a = record { answer = Due.refused 1 255; right = too-long q k; line = subst (λ z. GroupsText z w) (long-one p h (a .answer) (a .right)) (a .line) }
+
+  long-detailed : {w : List ℕ} (x y : List ℕ × List ℕ) → Detailed x p w y → Detailed x q w y
+  long-detailed x y a =
+      record {
+        answer = Due.refused 1 255;
+        right = too-long q k;
+        head = a .head;
+        long = subst (λ z. LengthsAhead z (a .head)) (long-one p h (a .answer) (a .right)) (a .long);
+        rest = a .rest;
+        reported = long-reported x y h k (a .reported);
+        text = a .text;
+      }
 
 long-answer : (asked : Asked) (x y : List ℕ × List ℕ) (p q w : List ℕ) → 255 < length p → 255 < length q → Answer asked x p w y → Answer asked x q w y
 long-answer Asked.Verdict x y p q w h k a = long-judged x y h k a
 long-answer Spans x y p q w h k a = long-judged x y h k a
 long-answer Asked.Looking x y p q w h k a = long-reported x y h k a
+long-answer Details x y p q w h k a = long-detailed h k x y a
 long-answer Groups x y p q w h k a = (long-listed h k (a .0), a .1)
 
 -- WHAT IS KEPT IS ENOUGH: a pattern and its first 1,025 bytes have the same answer.

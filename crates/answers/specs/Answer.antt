@@ -3,18 +3,20 @@
 use mathlib.Core.Path.{_≡_}
 use mathlib.Core.Bool.{Bool, true, false}
 use Prim.Native.Nat.{ℕ}
-use mathlib.Core.List.{List, _++_}
+use mathlib.Core.List.{List, [], _++_}
 use Rattle.grammar.specs.WriteOut.{writeOut}
 use Rattle.grammar.specs.Refusals.{Right}
 use Rattle.grammar.specs.Refusals as Due
 use Rattle.groups.specs.Numbers.{groupsOf}
-use Rattle.printing.specs.Text.{Printed, RefusedLine, LookingText, GroupsLine}
+use Rattle.lengths.specs.Lengths.{least, greatest}
+use Rattle.lengths.specs.Code.{limitOf}
+use Rattle.printing.specs.Text.{Printed, RefusedLine, LookingText, LengthsText, Ahead, GroupsLine}
 use Rattle.checker.specs.declared.Verdict.{Verdict}
 use Rattle.checker.specs.declared.Report.{Report}
 use Rattle.checker.specs.Verdicts.{Checks}
 use Rattle.checker.specs.Looking.{Reports}
 use Rattle.answers.specs.declared.Asked.{Asked}
-use Rattle.answers.specs.declared.Asked.the-variants.{Spans, Looking, Groups}
+use Rattle.answers.specs.declared.Asked.the-variants.{Spans, Looking, Details, Groups}
 use Rattle.answers.specs.declared.Asked.the-variants as Asked
 use Rattle.answers.specs.Line.{SpansLineOf, AnswerLine}
 
@@ -35,6 +37,20 @@ pub record Reported (x : List ℕ × List ℕ) (p w : List ℕ) (y : List ℕ ×
   pub line : SpansLineOf p (report .verdict) (y .1) rest
   pub text : w ≡ head ++ rest
 
+-- Before that, for an accepted pattern, how long a match can be (request 6).
+abbrev pub LengthsAhead : Due.Answer → List ℕ → Type 0
+LengthsAhead (Due.accepted t) w = Ahead (LengthsText (least t) (limitOf (greatest t))) w
+LengthsAhead (Due.refused n q) w = w ≡ []
+
+pub record Detailed (x : List ℕ × List ℕ) (p w : List ℕ) (y : List ℕ × List ℕ) : Type 0 where
+  pub answer : Due.Answer
+  pub right : Right p answer
+  pub head : List ℕ
+  pub long : LengthsAhead answer head
+  pub rest : List ℕ
+  pub reported : Reported x p rest y
+  pub text : w ≡ head ++ rest
+
 -- The text w has the number of each byte's group (request 3), by the grammar's answer, or the refusal.
 abbrev pub GroupsText : Due.Answer → List ℕ → Type 0
 GroupsText (Due.accepted t) w = GroupsLine (groupsOf (writeOut t) .group) w
@@ -50,6 +66,7 @@ abbrev pub Answer : Asked → List ℕ × List ℕ → List ℕ → List ℕ →
 Answer Asked.Verdict x p w y = Judged false x p w y
 Answer Spans x p w y = Judged true x p w y
 Answer Looking x p w y = Reported x p w y
+Answer Details x p w y = Detailed x p w y
 Answer Groups x p w y = Listed p w × (y ≡ x)
 
 -- The answer, of at most 5,383 bytes, is added to the n bytes that the buffer `old` held.

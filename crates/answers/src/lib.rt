@@ -1,12 +1,12 @@
-// What the programs print for a pattern: the checker's verdict on it, also with both spans of the witness and its readable form, and how much looking it took; or the
-// pattern's byte groups; and the answers to the patterns of the input.
+// What the programs print for a pattern: the checker's verdict on it, also with both spans of the witness and its readable form, how much looking it took and how long a
+// match can be; or the pattern's byte groups; and the answers to the patterns of the input.
 ghost use Prim.Native.Nat.{_≤_};
 ghost use lib.ListN.{length, take};
 ghost use Rattle.lines.specs.Answers.{Served};
 ghost use Rattle.lines.specs.Exchange.{Finished};
 ghost use Rattle.printing.specs.Text.{room, Printed};
 ghost use Rattle.answers.specs.Line.{LineOf};
-ghost use Rattle.answers.specs.Answer.{Judged, Reported, Listed, Answer, Answered};
+ghost use Rattle.answers.specs.Answer.{Judged, Reported, Detailed, Listed, Answer, Answered};
 ghost use Rattle.answers.specs.Cutting.{MadeReadable, Shown, Explained};
 use checker::Verdict;
 use lines::KEPT;
@@ -31,6 +31,8 @@ pub enum Asked {
     Spans,
     // this, and before it how much looking it took
     Looking,
+    // and before this how long a match can be
+    Details,
     // its byte groups
     Groups,
 }
@@ -135,6 +137,30 @@ fn report(
     explained(out, head, pattern, verdict, witness)
 }
 
+// Appends how long a match of a pattern can be, unless it is refused, and then the report.
+fn details(
+    out: &mut [u8; SIZE],
+    n: usize,
+    pattern: &[u8],
+    table: &mut [u8; TABLE],
+    witness: &mut [u8; WITNESS],
+) -> usize
+    ensures { λ r. ⌜ Printed 4349 (λ w. Detailed (now (table .entry), now (witness .entry)) (now (pattern .entry)) w (now (table .exit), now (witness .exit)))
+        (now (out .entry)) n (now (out .exit)) r ⌝ }
+{
+    let reading = reader::read(pattern);
+    let answer = reading.answer;
+    let own = reading.lengths;
+    let greatest = own.greatest;
+    let reader::Answer::Accepted = answer else {
+        return report(out, n, pattern, table, witness);
+    };
+    let limited = lengths::is_limited(greatest);
+    let most = lengths::bytes_of(greatest);
+    let head = printing::lengths(out, n, own.least, limited, most);
+    report(out, head, pattern, table, witness)
+}
+
 // Appends the number of each byte's group, or the pattern's refusal.
 fn list_groups(out: &mut [u8; SIZE], n: usize, pattern: &[u8]) -> usize
     ensures { λ r. ⌜ Printed 5383 (Listed (now (pattern .entry))) (now (out .entry)) n (now (out .exit)) r ⌝ }
@@ -165,6 +191,7 @@ pub fn answer(
         Asked::Verdict => judge(out, n, pattern, table, witness, false),
         Asked::Spans => judge(out, n, pattern, table, witness, true),
         Asked::Looking => report(out, n, pattern, table, witness),
+        Asked::Details => details(out, n, pattern, table, witness),
         Asked::Groups => list_groups(out, n, pattern),
     }
 }

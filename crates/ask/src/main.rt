@@ -4,6 +4,8 @@
 // 'groups' on a line of its own: each further line is a pattern; for each the number of each byte's group (request 3), or its refusal.
 // 'looking' on a line of its own: each further line is a pattern; for each how much looking its check took (request 4), and then what `explain_patterns` prints:
 // 'looks 9 comparisons 18 unlike 4 6162 greedy 0 1 posix 0 2 readable 6162'.
+// 'details' on a line of its own: the same, and before it how long a match of the pattern can be (request 6), unless it is refused: 'least 1 greatest 2 looks 9 ..', or
+// 'least 1 no limit looks 9 ..'.
 // Another word prints 'unknown'. Lines may have any length; input and output go by chunks, so memory stays the same. What is known is printed before more is read.
 // A failed read or write ends the program with a line on standard error.
 ghost use mathlib.Core.Path.{_≡_};
@@ -95,6 +97,9 @@ fn serve(chunk: &mut [u8; SIZE], line: &mut [u8; KEPT], out: &mut [u8; SIZE], fi
     }
     if first.n == 7 && lines::begins_with(lines::first_of(line, first.n), b"looking") {
         return serve_patterns(chunk, line, out, Asked::Looking, first);
+    }
+    if first.n == 7 && lines::begins_with(lines::first_of(line, first.n), b"details") {
+        return serve_patterns(chunk, line, out, Asked::Details, first);
     }
     let mut s = first;
     s.used = printing::text(out, 0, b"unknown");

@@ -34,7 +34,7 @@ module _ {p : List ℕ} {r : Reading} (h : ReadRight p r) {old : Lent} where
     -- or it has too many brackets,
     pub prepared-many : maxFields < r .brackets .count → Prepares p old (record { answer = Refused 12 (r .brackets .ninth); count = 0 }) old
     prepared-many l =
-        let (t, reads, b, is) = accepted-tree h e in
+        let (t, reads, b, long, is) = accepted-tree h e in
         let c : r .brackets .count ≡ brackets t = ap (λ g. g .count) b in
         let m : maxFields < brackets t = omega arith in
         let n : r .brackets .ninth ≡ ninth t = ap (λ g. g .ninth) b ∙ ap (λ x. cond x (ninth t) 0) (lt-ltb maxFields (brackets t) m) in
@@ -48,7 +48,7 @@ module _ {p : List ℕ} {r : Reading} (h : ReadRight p r) {old : Lent} where
     pub prepared-ready : {new : Tables} {marks : List ℕ} → r .brackets .count ≤ maxFields → Marked (decode (r .pattern)) marks → FilledBy (r .pattern) new
         → Prepares p old (record { answer = r .answer; count = r .brackets .count }) (lent new marks)
     prepared-ready {new} {marks} l marked filled =
-        let (t, reads, b, is) = accepted-tree h e in
+        let (t, reads, b, long, is) = accepted-tree h e in
         let (numbered, few) = accepted-leaves h e in
         let c : r .brackets .count ≡ brackets t = ap (λ g. g .count) b in
         record {

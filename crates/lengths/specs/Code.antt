@@ -1,6 +1,8 @@
 -- What the code's values mean, and lengths as the code counts them.
 -- Assumes nothing.
 use Prim.Native.Nat.{ℕ, suc, _+_, _*_, min}
+use mathlib.Core.Bool.{Bool, true, false, cond}
+use mathlib.Core.Option.{Option, none, some}
 use Rattle.grammar.specs.Grammar.{Repeat, Alternation, Sequence, Atom}
 use Rattle.grammar.specs.Limits.{maxWeight}
 use Rattle.lengths.specs.Lengths.{Longest, limit, noLimit, plus, greater, copies, endless, leastRepeated, greatestRepeated, least, leasts, leastAtom, greatest, greatests, greatestAtom}
@@ -19,6 +21,18 @@ longestOf NoLimit = noLimit
 
 abbrev pub meaning : Lengths → Extent
 meaning x = (x .least, longestOf (x .greatest))
+
+-- The two cases as a test and a number, for those who print them or hand them on: whether there is a limit, and which.
+abbrev pub isLimited : Longest → Bool
+isLimited (limit n) = true
+isLimited noLimit = false
+
+abbrev pub bytesOf : Longest → ℕ
+bytesOf (limit n) = n
+bytesOf noLimit = 0
+
+abbrev pub limitOf : Longest → Option ℕ
+limitOf g = cond (isLimited g) (some (bytesOf g)) none
 
 -- Both lengths of an alternation, of a sequence and of an atom.
 abbrev pub lengths : Alternation → Extent

@@ -3,7 +3,7 @@
 ghost use mathlib.Core.Path.{_≡_};
 ghost use Prim.Native.Nat.{_+_, _*_, max};
 ghost use Rattle.lengths.specs.Lengths.{limit, plus, greater, copies, endless};
-ghost use Rattle.lengths.specs.Code.{longestOf, meaning, inRow, oneOf, upTo, orMore, cap, capLongest, capped};
+ghost use Rattle.lengths.specs.Code.{longestOf, isLimited, bytesOf, meaning, inRow, oneOf, upTo, orMore, cap, capLongest, capped};
 
 // A greatest length: a number of bytes, or none is the greatest.
 pub enum Greatest {
@@ -167,5 +167,25 @@ pub fn or_more(m: usize, a: Lengths) -> Lengths
     Lengths {
         least: product(m, a.least),
         greatest: unlimited(each),
+    }
+}
+
+// Whether there is a limit.
+pub fn is_limited(x: Greatest) -> bool
+    ensures limited { λ r. ⌜ r ≡ isLimited (longestOf x) ⌝ }
+{
+    match x {
+        Greatest::Limit { bytes: _ } => true,
+        Greatest::NoLimit => false,
+    }
+}
+
+// The limit, 0 if there is none.
+pub fn bytes_of(x: Greatest) -> usize
+    ensures bytes { λ r. ⌜ r ≡ bytesOf (longestOf x) ⌝ }
+{
+    match x {
+        Greatest::Limit { bytes } => bytes,
+        Greatest::NoLimit => 0,
     }
 }

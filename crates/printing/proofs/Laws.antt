@@ -12,8 +12,8 @@ use lib.Dec.{T, leb, leb→le, nleb→lt}
 use lib.ListN.{length, take, getD, set, length-append, length-take, length-set}
 use lib.Seq.{take-all, take-append-le, take-suc, take-suc-set, take-take, length-take-le}
 use Rattle.io.specs.Digits.{glyph, digits, Fewest}
-use Rattle.printing.specs.Text.{Appended, Field, hex, Printed, no-fields, field, no-pairs, absent, between, pairAt, pairsOf}
-use Rattle.printing.specs.Puts.{Put, PutField, PutFields, PutPair, PutPairs}
+use Rattle.printing.specs.Text.{Appended, Field, hex, Printed, no-fields, field, no-pairs, absent, between, pairAt, pairsOf, LimitText, limited, unlimited}
+use Rattle.printing.specs.Puts.{Put, PutField, PutFields, PutLine, PutPair, PutPairs}
 
 -- A part of x that is cut off does not count past the first m bytes.
 take-cut : (k m : ℕ) (x y : List ℕ) → (k < length x → m ≤ k) → take m (take k x ++ y) ≡ take m (x ++ y)
@@ -209,6 +209,15 @@ put-more-pairs {a = a} {c = c} {n = n} {k = k} {f = f} {known = known} {places =
       most = omega (arith, length-append (p .text) (q .text), p .most, q .most);
       put = appended-join (p .put) (q .put);
     })
+
+-- A limit, or none.
+pub put-limited : {a b c : List ℕ} {n m k x : ℕ} {here : Bool} → here ≡ true → Put a n (32 ∷ 103 ∷ 114 ∷ 101 ∷ 97 ∷ 116 ∷ 101 ∷ 115 ∷ 116 ∷ []) b m → PutField x b m c k
+    → PutLine 30 (LimitText (cond here (some x) none)) a n c k
+put-limited e f g = rw e (_, limited (g .field), omega (arith, g .most), appended-join f (g .put))
+
+pub put-unlimited : {a b : List ℕ} {n m : ℕ} {here : Bool} (x : ℕ) → here ≡ false → Put a n (32 ∷ 110 ∷ 111 ∷ 32 ∷ 108 ∷ 105 ∷ 109 ∷ 105 ∷ 116 ∷ []) b m
+    → PutLine 30 (LimitText (cond here (some x) none)) a n b m
+put-unlimited x e f = rw e (_, unlimited, omega arith, f)
 
 -- Numbers, each after a space.
 pub put-no-fields : {a b : List ℕ} {n m : ℕ} → Put a n [] b m → PutFields [] a n b m

@@ -52,15 +52,30 @@ pub record RefusedLine (number place : ℕ) (w : List ℕ) : Type 0 where
   pub at : Field place second
   pub text : w ≡ (114 ∷ 101 ∷ 102 ∷ 117 ∷ 115 ∷ 101 ∷ 100 ∷ []) ++ (first ++ (second ++ (10 ∷ [])))
 
--- What the reader hands over for an accepted pattern: how many parts and leaves it has written out, and how many bytes the sets of its leaves hold together.
-pub record AcceptedLine (parts leaves members : ℕ) (w : List ℕ) : Type 0 where
+-- How long a match can be (request 6): "least 1", and then " greatest 2" or " no limit".
+pub data LimitText : Option ℕ → List ℕ → Type 0 where
+  limited : {x : ℕ} {w : List ℕ} → Field x w → LimitText (some x) ((32 ∷ 103 ∷ 114 ∷ 101 ∷ 97 ∷ 116 ∷ 101 ∷ 115 ∷ 116 ∷ []) ++ w)
+  unlimited : LimitText none (32 ∷ 110 ∷ 111 ∷ 32 ∷ 108 ∷ 105 ∷ 109 ∷ 105 ∷ 116 ∷ [])
+
+pub record LengthsText (least : ℕ) (greatest : Option ℕ) (w : List ℕ) : Type 0 where
+  pub first : List ℕ
+  pub rest : List ℕ
+  pub is : Field least first
+  pub ends : LimitText greatest rest
+  pub text : w ≡ (108 ∷ 101 ∷ 97 ∷ 115 ∷ 116 ∷ []) ++ (first ++ rest)
+
+-- What the reader hands over for an accepted pattern: how many parts and leaves it has written out, how many bytes the sets of its leaves hold together, and how long a
+-- match can be.
+pub record AcceptedLine (parts leaves members least : ℕ) (greatest : Option ℕ) (w : List ℕ) : Type 0 where
   pub first : List ℕ
   pub second : List ℕ
   pub third : List ℕ
+  pub rest : List ℕ
   pub is : Field parts first
   pub with : Field leaves second
   pub holding : Field members third
-  pub text : w ≡ (97 ∷ 99 ∷ 99 ∷ 101 ∷ 112 ∷ 116 ∷ 101 ∷ 100 ∷ []) ++ (first ++ (second ++ (third ++ (10 ∷ []))))
+  pub long : LengthsText least greatest rest
+  pub text : w ≡ (97 ∷ 99 ∷ 99 ∷ 101 ∷ 112 ∷ 116 ∷ 101 ∷ 100 ∷ []) ++ (first ++ (second ++ (third ++ (32 ∷ (rest ++ (10 ∷ []))))))
 
 -- "none".
 abbrev pub noneLine : List ℕ
@@ -116,6 +131,12 @@ pub record LookingText (looks comparisons : ℕ) (w : List ℕ) : Type 0 where
   pub is : Field looks first
   pub with : Field comparisons second
   pub text : w ≡ (108 ∷ 111 ∷ 111 ∷ 107 ∷ 115 ∷ []) ++ (first ++ ((32 ∷ 99 ∷ 111 ∷ 109 ∷ 112 ∷ 97 ∷ 114 ∷ 105 ∷ 115 ∷ 111 ∷ 110 ∷ 115 ∷ []) ++ (second ++ (32 ∷ []))))
+
+-- Text of the kind L, and a space after it.
+pub record Ahead (L : List ℕ → Type 0) (w : List ℕ) : Type 0 where
+  pub head : List ℕ
+  pub is : L head
+  pub text : w ≡ head ++ (32 ∷ [])
 
 -- Numbers, each after a space.
 pub data Fields : List ℕ → List ℕ → Type 0 where

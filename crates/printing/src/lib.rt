@@ -7,7 +7,7 @@ ghost use Prim.Native.Nat.{_<_, min};
 ghost use lib.ListN.{take};
 ghost use Rattle.io.specs.Digits.{digits};
 ghost use Rattle.io.specs.Digits.{glyph as Digits·glyph};
-ghost use Rattle.printing.specs.Text.{Appended, Printed, room, hex, AlikeLine, UnlikeLine, RefusedLine, AcceptedLine, SpansLine, FieldsLine, pairsOf, ExplainedLine, LookingText, GroupsLine, noneLine};
+ghost use Rattle.printing.specs.Text.{Appended, Printed, room, hex, AlikeLine, UnlikeLine, RefusedLine, LimitText, LengthsText, AcceptedLine, Ahead, SpansLine, FieldsLine, pairsOf, ExplainedLine, LookingText, GroupsLine, noneLine};
 ghost use Rattle.printing.specs.Puts.{Put, PutField, PutFields, PutPair, PutPairs, PutLine, Unended};
 
 // How many bytes of the buffer are in use: all of them where n is above its size.
@@ -118,21 +118,66 @@ pub fn refused(out: &mut [u8; 65536], n: usize, number: u8, place: usize) -> usi
     put_byte(out, second, b'\n')
 }
 
-// 'accepted PARTS LEAVES MEMBERS'
+// ' greatest GREATEST', or ' no limit'
+fn put_limit(out: &mut [u8; 65536], n: usize, limited: bool, greatest: usize) -> usize
+    ensures { λ r. ⌜ PutLine 30 (LimitText (cond limited (some greatest) none)) (now (out .entry)) n (now (out .exit)) r ⌝ }
+{
+    if limited {
+        let word = put(out, n, b" greatest");
+        return put_field(out, word, greatest);
+    }
+    put(out, n, b" no limit")
+}
+
+// 'least LEAST greatest GREATEST', or 'least LEAST no limit'
+fn put_lengths(
+    out: &mut [u8; 65536],
+    n: usize,
+    least: usize,
+    limited: bool,
+    greatest: usize,
+) -> usize
+    ensures { λ r. ⌜ PutLine 56 (LengthsText least (cond limited (some greatest) none)) (now (out .entry)) n (now (out .exit)) r ⌝ }
+{
+    let word = put(out, n, b"least");
+    let first = put_field(out, word, least);
+    put_limit(out, first, limited, greatest)
+}
+
+// The same and a space, before another answer
+pub fn lengths(
+    out: &mut [u8; 65536],
+    n: usize,
+    least: usize,
+    limited: bool,
+    greatest: usize,
+) -> usize
+    ensures printed { λ r. ⌜ Printed 57 (Ahead (LengthsText least (cond limited (some greatest) none))) (now (out .entry)) n (now (out .exit)) r ⌝ }
+{
+    let text = put_lengths(out, n, least, limited, greatest);
+    put_byte(out, text, b' ')
+}
+
+// 'accepted PARTS LEAVES MEMBERS least LEAST greatest GREATEST', or 'no limit' at its end
 pub fn accepted(
     out: &mut [u8; 65536],
     n: usize,
     parts: usize,
     leaves: usize,
     members: usize,
+    least: usize,
+    limited: bool,
+    greatest: usize,
 ) -> usize
-    ensures printed { λ r. ⌜ Printed 72 (AcceptedLine parts leaves members) (now (out .entry)) n (now (out .exit)) r ⌝ }
+    ensures printed { λ r. ⌜ Printed 129 (AcceptedLine parts leaves members least (cond limited (some greatest) none)) (now (out .entry)) n (now (out .exit)) r ⌝ }
 {
     let word = put(out, n, b"accepted");
     let first = put_field(out, word, parts);
     let second = put_field(out, first, leaves);
     let third = put_field(out, second, members);
-    put_byte(out, third, b'\n')
+    let space = put_byte(out, third, b' ');
+    let rest = put_lengths(out, space, least, limited, greatest);
+    put_byte(out, rest, b'\n')
 }
 
 // 'none'

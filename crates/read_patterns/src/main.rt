@@ -1,7 +1,10 @@
-// Reads patterns from standard input, one a line, and prints what the reader hands over for each: 'refused NUMBER PLACE', or 'accepted PARTS LEAVES MEMBERS',
-// the parts and leaves of the written-out pattern and how many bytes the sets of its leaves hold together.
+// Reads patterns from standard input, one a line, and prints what the reader hands over for each: 'refused NUMBER PLACE', or
+// 'accepted PARTS LEAVES MEMBERS least LEAST greatest GREATEST', the parts and leaves of the written-out pattern, how many bytes the sets of its leaves hold together, and
+// how long a match can be (request 6); 'no limit' stands for a greatest length that there is none of.
 ghost use Prim.Native.Nat.{_≤_, _*_, _<_};
 ghost use Rattle.lines.specs.Exchange.{Finished};
+ghost use Rattle.printing.specs.Text.{Printed};
+ghost use Rattle.read_patterns.specs.Line.{Told};
 use lines::KEPT;
 use lines::SIZE;
 use lines::State;
@@ -22,13 +25,29 @@ fn members(masks: &[u64; 256]) -> u64 {
 }
 
 // What the reader hands over for a pattern.
-fn answer(out: &mut [u8; SIZE], pattern: &[u8]) -> usize {
+fn answer(out: &mut [u8; SIZE], pattern: &[u8]) -> usize
+    ensures { λ r. ⌜ Printed 129 (Told (now (pattern .entry))) (now (out .entry)) 0 (now (out .exit)) r ⌝ }
+{
     let reading = reader::read(pattern);
     let answer = reading.answer;
     let arrays = reading.pattern;
+    let own = reading.lengths;
+    let greatest = own.greatest;
     let Answer::Refused { number, place } = answer else {
         let masks = arrays.masks;
-        return printing::accepted(out, 0, arrays.len, arrays.leaves, members(&masks) as usize);
+        let held = members(&masks) as usize;
+        let limited = lengths::is_limited(greatest);
+        let most = lengths::bytes_of(greatest);
+        return printing::accepted(
+            out,
+            0,
+            arrays.len,
+            arrays.leaves,
+            held,
+            own.least,
+            limited,
+            most,
+        );
     };
     printing::refused(out, 0, number, place)
 }

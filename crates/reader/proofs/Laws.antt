@@ -18,26 +18,37 @@ use Rattle.words.specs.Sets.{hasBit}
 use Rattle.arrays.specs.Decoded.{decode}
 use Rattle.arrays.specs.Finished.{HoldsPattern}
 use Rattle.arrays.proofs.Laws.{masks-hold}
+use Rattle.lengths.specs.Lengths.{least, greatest}
+use Rattle.lengths.specs.Code.{longestOf, lengths}
+use Rattle.lengths.specs.Code as Lengths
 use Rattle.reader.specs.declared.Answer.the-variants.{Accepted, Refused}
 use Rattle.reader.specs.declared.Reading.{Reading}
-use Rattle.reader.specs.Reading.{Written, accepted, refused, meaning, due, Beside, bracketsDue, ReadRight}
+use Rattle.reader.specs.Reading.{Written, accepted, refused, meaning, due, Beside, bracketsDue, lengthsDue, ReadRight}
 
 module _ {p : List ℕ} {r : Reading} (h : ReadRight p r) where
   -- THE ANSWER AND THE ARRAYS ARE THOSE OF THE DEFINITION: one equation, for every pattern.
   pub reading-is : meaning (r .answer) (r .pattern) ≡ due (read p)
   reading-is = h .means ∙ ap due (sym (right-unique p (h .answer) (h .right)))
 
-  -- Accepted: the pattern is in the grammar and within the limits, its brackets are counted, and the arrays decode to its written-out pattern.
-  pub accepted-tree : r .answer ≡ Accepted → (t : Alternation) × Reads p t × (r .brackets ≡ bracketsDue (Due.accepted t)) × (decode (r .pattern) ≡ writeOut t)
-  accepted-tree e = go (h .answer) (h .right) (h .counted) (ap (λ a. meaning a (r .pattern)) (sym e) ∙ h .means)
+  -- So are the lengths.
+  pub lengths-are : Lengths.meaning (r .lengths) ≡ lengthsDue (read p)
+  lengths-are = h .measured ∙ ap lengthsDue (sym (right-unique p (h .answer) (h .right)))
+
+  -- Accepted: the pattern is in the grammar and within the limits, its brackets are counted, its lengths are known, and the arrays decode to its written-out pattern.
+  pub accepted-tree : r .answer ≡ Accepted
+      → (t : Alternation) × Reads p t × (r .brackets ≡ bracketsDue (Due.accepted t)) × (Lengths.meaning (r .lengths) ≡ lengths t) × (decode (r .pattern) ≡ writeOut t)
+  accepted-tree e = go (h .answer) (h .right) (h .counted) (h .measured) (ap (λ a. meaning a (r .pattern)) (sym e) ∙ h .means)
     where
-      go : (a : Due.Answer) → Right p a → r .brackets ≡ bracketsDue a → accepted (decode (r .pattern)) ≡ due a
-          → (t : Alternation) × Reads p t × (r .brackets ≡ bracketsDue (Due.accepted t)) × (decode (r .pattern) ≡ writeOut t)
-      go (Due.accepted t) w b q = (t, w, b, (cc))
-      go (Due.refused n k) w b q = absurd (let z : _≡_ {A = ℕ} 0 1 = cc in omega arith)
+      go : (a : Due.Answer) → Right p a → r .brackets ≡ bracketsDue a → Lengths.meaning (r .lengths) ≡ lengthsDue a → accepted (decode (r .pattern)) ≡ due a
+          → (t : Alternation) × Reads p t × (r .brackets ≡ bracketsDue (Due.accepted t)) × (Lengths.meaning (r .lengths) ≡ lengths t) × (decode (r .pattern) ≡ writeOut t)
+      go (Due.accepted t) w b l q = (t, w, b, l, (cc))
+      go (Due.refused n k) w b l q = absurd (let z : _≡_ {A = ℕ} 0 1 = cc in omega arith)
 
   pub accepted-reads : r .answer ≡ Accepted → (t : Alternation) × Reads p t × (decode (r .pattern) ≡ writeOut t)
-  accepted-reads e = let (t, w, b, q) = accepted-tree e in (t, w, q)
+  accepted-reads e = let (t, w, b, l, q) = accepted-tree e in (t, w, q)
+
+  pub accepted-lengths : r .answer ≡ Accepted → (t : Alternation) × Reads p t × (r .lengths .least ≡ least t) × (longestOf (r .lengths .greatest) ≡ greatest t)
+  accepted-lengths e = let (t, w, b, l, q) = accepted-tree e in (t, w, ap (λ x. x .0) l, ap (λ x. x .1) l)
 
   -- Its leaves are numbered from 0, and at most 64.
   pub accepted-leaves : r .answer ≡ Accepted → Numbered 0 (decode (r .pattern)) × (count (decode (r .pattern)) ≤ 64)

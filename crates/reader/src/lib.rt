@@ -77,10 +77,7 @@ fn found(at: usize, size: Size, len: usize) -> Step
     ensures { λ r. ⌜ r ≡ record { part = Part.Read at size; len = len } ⌝ }
 {
     Step {
-        part: Part::Read {
-            at: at,
-            size: size,
-        },
+        part: Part::Read { at: at, size: size },
         len: len,
     }
 }
@@ -409,8 +406,7 @@ fn alternation(s: &[u8], at: usize, depth: usize, a: &mut Codes, len: usize, b: 
         if s[end] == b'|' {
             let rest = alternation(s, end + 1, depth, a, d2, b1);
             let more = rest.part;
-            let Part::Read { at: last, size: v } = more
-            else {
+            let Part::Read { at: last, size: v } = more else {
                 return rest;
             };
             let d3 = rest.len;
@@ -445,15 +441,13 @@ fn sequence(s: &[u8], at: usize, depth: usize, a: &mut Codes, len: usize, b: Bra
     let b1 = first.brackets;
     let again = repeat(s, end, w, a, d1, len);
     let repeated = again.part;
-    let Part::Read { at: next, size: v } = repeated
-    else {
+    let Part::Read { at: next, size: v } = repeated else {
         return walked(again, b1);
     };
     let d2 = again.len;
     let rest = sequence(s, next, depth, a, d2, b1);
     let more = rest.part;
-    let Part::Read { at: last, size: u } = more
-    else {
+    let Part::Read { at: last, size: u } = more else {
         return rest;
     };
     let d3 = rest.len;

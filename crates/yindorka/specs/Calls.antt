@@ -15,6 +15,10 @@ use Rattle.fields.specs.Cuts.{Lent}
 use Rattle.fields.specs.Cuts as Fields
 use Rattle.theory.specs.Pattern.{Re}
 use Rattle.theory.specs.Spans.{nowhere, span, greedy, posix}
+use Rattle.grammar.specs.Refusals.{Right}
+use Rattle.grammar.specs.Refusals as Due
+use Rattle.lengths.specs.Lengths.{least, greatest}
+use Rattle.lengths.specs.Code.{isLimited, bytesOf}
 use Rattle.matchers.specs.Tables.{Tables, Ready}
 use Rattle.reader.specs.declared.Answer.{Answer}
 use Rattle.reader.specs.declared.Answer.the-variants.{Accepted, Refused}
@@ -29,6 +33,7 @@ use Rattle.checker.specs.Verdicts.{Checks}
 use Rattle.checker.specs.Looking.{Reports}
 use Rattle.yindorka.specs.declared.Refusal.{Refusal}
 use Rattle.yindorka.specs.declared.Counted.{Counted}
+use Rattle.yindorka.specs.declared.Lengths.{Lengths}
 use Rattle.yindorka.specs.declared.Spanned.{Spanned}
 use Rattle.yindorka.specs.declared.Outcome.{Outcome}
 use Rattle.yindorka.specs.declared.Looking.{Looking}
@@ -76,6 +81,16 @@ pub data FieldsTo (r : Re) (w old : List ℕ) : Spanned → List ℕ → Type 0 
 -- For the pattern of which the tables and masks are.
 pub record CutsFields (t : Lent) (w old : List ℕ) (x : Spanned) (new : List ℕ) : Type 0 where
   pub cut : {r : Re} → Ready r (t .tables) → Marks r (t .marks) → FieldsTo r w old x new
+
+-- Number 0: the least length of a match, and if `limited` is 1 the greatest (request 6). Else the refusal, and no lengths.
+abbrev pub lengthsOf : Due.Answer → Lengths
+lengthsOf (Due.accepted t) = record { number = 0; place = 0; least = least t; limited = cond (isLimited (greatest t)) 1 0; greatest = bytesOf (greatest t) }
+lengthsOf (Due.refused n q) = record { number = n; place = q; least = 0; limited = 0; greatest = 0 }
+
+pub record Measures (p : List ℕ) (r : Lengths) : Type 0 where
+  pub answer : Due.Answer
+  pub right : Right p answer
+  pub is : r ≡ lengthsOf answer
 
 -- The groups of an accepted pattern, by their numbers; the arrays of a refused one are kept.
 pub record ShowsGroups (p group lowest : List ℕ) (r : Counted) (group′ lowest′ : List ℕ) : Type 0 where

@@ -1,9 +1,10 @@
-// The library for other languages: a pattern's tables, both spans of a line by them, the fields of its greedy span, its byte groups, and the checker. No function keeps a state, allocates or
+// The library for other languages: how long a match of a pattern can be, its tables, both spans of a line by them, the fields of its greedy span, its byte groups, and the checker. No function keeps a state, allocates or
 // fails: a pattern that is no pattern is refused.
 ghost use mathlib.Core.Path.{_≡_};
+ghost use mathlib.Core.Bool.{cond};
 ghost use Rattle.matchers.specs.Tables.{tables};
 ghost use Rattle.fields.specs.Cuts.{lent};
-ghost use Rattle.yindorka.specs.Calls.{refusalOf, countedOf, Prepares, Cuts, PreparesFields, CutsFields, ShowsGroups, RewritesLine, Decided, outcomeOf, Told};
+ghost use Rattle.yindorka.specs.Calls.{refusalOf, countedOf, Measures, Prepares, Cuts, PreparesFields, CutsFields, ShowsGroups, RewritesLine, Decided, outcomeOf, Told};
 use checker::Verdict;
 use matchers::Spans;
 use reader::Answer;
@@ -21,6 +22,16 @@ pub struct Counted {
     pub number: usize,
     pub place: usize,
     pub count: usize,
+}
+
+// Number 0 for an accepted pattern, with the least length of a match and, if `limited` is 1, the greatest; 0 there is no limit. Else paper 01's number and place.
+#[repr(C)]
+pub struct Lengths {
+    pub number: usize,
+    pub place: usize,
+    pub least: usize,
+    pub limited: usize,
+    pub greatest: usize,
 }
 
 // The greedy span if `found` is 1; bit f - 1 of `known` if its field f has a start, bit f + 7 if it has an end.
@@ -73,6 +84,39 @@ fn counted_of(x: Answer, count: usize) -> Counted
         number: refusal.number,
         place: refusal.place,
         count,
+    }
+}
+
+fn flag(is: bool) -> usize
+    ensures { λ r. ⌜ r ≡ cond is 1 0 ⌝ }
+{
+    if is { 1 } else { 0 }
+}
+
+// How long a match of a pattern can be, each leaf counted as 1 whatever its set.
+#[no_mangle]
+pub extern "C" fn yindorka_lengths(pattern: &[u8]) -> Lengths
+    ensures measured { λ r. ⌜ Measures (now (pattern .entry)) r ⌝ }
+{
+    let reading = reader::read(pattern);
+    let answer = reading.answer;
+    let own = reading.lengths;
+    let greatest = own.greatest;
+    let Answer::Refused { number, place } = answer else {
+        return Lengths {
+            number: 0,
+            place: 0,
+            least: own.least,
+            limited: flag(lengths::is_limited(greatest)),
+            greatest: lengths::bytes_of(greatest),
+        };
+    };
+    Lengths {
+        number: number as usize,
+        place: place,
+        least: 0,
+        limited: 0,
+        greatest: 0,
     }
 }
 
@@ -256,10 +300,10 @@ pub extern "C" fn yindorka_check_looking(
     }
 }
 
-// The version of the library: 10500 is 1.5.0.
+// The version of the library: 10600 is 1.6.0.
 #[no_mangle]
 pub extern "C" fn yindorka_version() -> u32
-    ensures version { λ r. ⌜ r ≡ 10500 ⌝ }
+    ensures version { λ r. ⌜ r ≡ 10600 ⌝ }
 {
-    10500
+    10600
 }

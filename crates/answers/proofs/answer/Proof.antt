@@ -16,7 +16,10 @@ returns-3 : tie.Need-returns-3
 returns-3 c = let l = c .report .ensures in rw (c .before .before .before .before .enum-told3 .given .1) (l .0, l .1, omega (arith, l .2), l .3)
 
 returns-4 : tie.Need-returns-4
-returns-4 c = let l = c .list-groups .ensures in rw (c .before .before .enum-told4 .given .1) (l .0, (l .1, refl), l .2, l .3)
+returns-4 c = let l = c .details .ensures in rw (c .before .before .before .before .enum-told4 .given .1) (l .0, l .1, omega (arith, l .2), l .3)
+
+returns-5 : tie.Need-returns-5
+returns-5 c = let l = c .list-groups .ensures in rw (c .before .before .enum-told5 .given .1) (l .0, (l .1, refl), l .2, l .3)
 
 pub answer-spec : {M : Type 1} → statement M
 answer-spec =
@@ -30,7 +33,10 @@ answer-spec =
     (λ c κs. search needs)
     (λ c. search needs)
     (λ c κs. search needs)
+    (λ c. search needs)
+    (λ c κs. search needs)
     returns
     returns-2
     returns-3
-    returns-4)
+    returns-4
+    returns-5)

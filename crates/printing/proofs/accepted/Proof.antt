@@ -12,24 +12,32 @@ use Rattle.printing.proofs.accepted.Tie as tie
 returns : tie.Need-returns
 returns c =
     let c4 = c .before .before .before .before in
-    let f = c4 .before .before .put-field .ensures in
-    let s = c4 .put-field2 .ensures in
-    let t = c .before .before .put-field3 .ensures in (
+    let c6 = c4 .before .before in
+    let c8 = c6 .before .before in
+    let c10 = c8 .before .before in
+    let f = c10 .put-field .ensures in
+    let s = c8 .put-field2 .ensures in
+    let t = c6 .put-field3 .ensures in
+    let l = c .before .before .put-lengths .ensures in (
       _,
-      record { first = f .text; second = s .text; third = t .text; is = f .field; with = s .field; holding = t .field; text = refl },
+      record { first = f .text; second = s .text; third = t .text; rest = l .0; is = f .field; with = s .field; holding = t .field; long = l .1; text = refl },
       omega (
         arith,
         f .most,
         s .most,
         t .most,
-        length-append (f .text) (s .text ++ (t .text ++ (10 ∷ []))),
-        length-append (s .text) (t .text ++ (10 ∷ [])),
-        length-append (t .text) (10 ∷ []),
+        l .2,
+        length-append (f .text) (s .text ++ (t .text ++ (32 ∷ (l .0 ++ (10 ∷ []))))),
+        length-append (s .text) (t .text ++ (32 ∷ (l .0 ++ (10 ∷ [])))),
+        length-append (t .text) (32 ∷ (l .0 ++ (10 ∷ []))),
+        length-append (l .0) (10 ∷ []),
       ),
-      appended-join (c4 .before .before .before .before .put .ensures)
+      appended-join (c10 .before .before .put .ensures)
           (appended-join (f .put)
           (appended-join (s .put)
-          (appended-join (t .put) (c .put-byte .ensures)))) .appended,
+          (appended-join (t .put)
+          (appended-join (c4 .put-byte .ensures)
+          (appended-join (l .3) (c .put-byte2 .ensures)))))) .appended,
     )
 
 pub accepted-spec : {M : Type 1} → statement M
@@ -37,6 +45,8 @@ accepted-spec =
     tie.close
     (tie.spec
     (λ c. search needs)
+    (λ c κs. search needs)
+    (λ c κs. search needs)
     (λ c κs. search needs)
     (λ c κs. search needs)
     (λ c κs. search needs)

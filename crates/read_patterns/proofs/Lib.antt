@@ -1,0 +1,2 @@
+-- The line is the one due.
+mod Telling
