@@ -1,4 +1,4 @@
-/* Yindorka for C: both readings of a line, the fields of the greedy one, the byte groups of a pattern, and the checker.
+/* Yindorka for C: both readings of a line, the fields of the greedy one, how long the spans and what the byte groups of a pattern are, and the checker.
  *
  * Every function is proved to meet the promise beside it, for every content of every buffer (crates/yindorka/src/lib.rt has the contracts).
  * No function allocates, keeps a state between calls or writes anywhere but to the buffers named; so each may be called from any number of threads,
@@ -12,7 +12,7 @@
  * The stack is not proved. It was measured over some 25,000 patterns, the deepest and the heaviest among them, for 1.0.0, and for each version since over those that
  * took the most; tests/embedding holds it:
  * yindorka_check takes at most 180 KB, yindorka_prepare 180 KB, yindorka_cut 2 KB, yindorka_prepare_fields 180 KB, yindorka_cut_fields 20 KB, yindorka_groups 180 KB,
- * yindorka_readable 180 KB, yindorka_check_looking 180 KB. The size of a line or a table changes nothing in this.
+ * yindorka_readable 180 KB, yindorka_check_looking 180 KB, yindorka_lengths 180 KB. The size of a line or a table changes nothing in this.
  */
 #ifndef YINDORKA_H
 #define YINDORKA_H
@@ -21,8 +21,8 @@
 #include <stdint.h>
 
 /* The version of this header: 10,000 times the first number, 100 times the second, and the third. */
-#define YINDORKA_VERSION "1.5.0"
-#define YINDORKA_VERSION_NUMBER 10500
+#define YINDORKA_VERSION "1.6.0"
+#define YINDORKA_VERSION_NUMBER 10600
 
 #ifdef __cplusplus
 extern "C" {
@@ -52,6 +52,16 @@ typedef struct {
     size_t number;
     size_t place;
 } yindorka_refusal;
+
+/* How long the spans of an accepted pattern can be. number 0: every span of either reading has least bytes or more; and, if limited is 1, greatest bytes or fewer. If limited
+ * is 0 there is no limit, and greatest is 0. Else the pattern is refused with that number (1 to 8) at that place, and the others are 0. */
+typedef struct {
+    size_t number;
+    size_t place;
+    size_t least;
+    size_t limited;
+    size_t greatest;
+} yindorka_span_lengths;
 
 /* The tables of an accepted pattern for fields: filled by yindorka_read_fields, read by yindorka_fields. marks has for each outcome of a row the fields that are opened
  * and closed on the way to it; count is how many fields the pattern has, at most 8. */
@@ -132,6 +142,11 @@ yindorka_fields_refusal yindorka_prepare_fields(const uint8_t *pattern, size_t p
 yindorka_spanned yindorka_cut_fields(const uint8_t *line, size_t line_length, const uint64_t masks[256], const uint8_t rows[4225], const uint8_t lens[65],
                                      const uint64_t sets[65], const uint8_t ends[65], const uint64_t next[257], const uint8_t hows[10], const uint16_t marks[4225],
                                      size_t places[16]);
+
+/* The least and the greatest length that the pattern could match, neither above 64, each leaf counted as 1 whatever its set: a class that holds no byte counts too. There is
+ * no limit if *, + or {m,} stands over a part whose greatest length is not 0, unless {0} or {0,0} stands over it. A ? after a repeat changes nothing. Where each class holds
+ * some byte, some line has a span of the least length, and some a POSIX span of the greatest, or of more than any number of bytes. */
+yindorka_span_lengths yindorka_lengths(const uint8_t *pattern, size_t pattern_length);
 
 /* The groups as arrays; yindorka_read_groups below is easier to call. */
 yindorka_groups_refusal yindorka_groups(const uint8_t *pattern, size_t pattern_length, uint8_t group[256], uint8_t lowest[256]);

@@ -1,6 +1,7 @@
 // The library as C calls it, for tests/requests. Standard input has a call a line, patterns and lines in hex ('-' if one is empty).
 // 'fields PATTERN LINE' prints 'refused NUMBER PLACE', 'none', or 'span START END' and for each field its start and end or 'absent'.
 // 'groups PATTERN' prints 'refused NUMBER PLACE', or 'groups' and the number of each byte's group, then after ' : ' the lowest byte of each group.
+// 'lengths PATTERN' prints 'refused NUMBER PLACE', 'least LEAST greatest GREATEST' or 'least LEAST no limit'.
 // 'readable PATTERN LINE' prints 'refused NUMBER PLACE' or 'accepted', then after ' : ' the line in hex.
 // 'check PATTERN TABLE WITNESS' calls the checker, with how many bytes of table and witness buffer are lent. Before the call every byte of the table is aa and every byte of the witness buffer bb, and guard bytes stand before
 // and behind both. Prints for each call, on one line, the result as the checker program has it, then the table and the witness buffer in hex ('-' if one is empty),
@@ -170,6 +171,27 @@ static int groups(const char *pattern_hex)
     return 1;
 }
 
+// Numbers that are to be 0 and are not are printed as well.
+static int lengths(const char *pattern_hex)
+{
+    uint8_t *pattern = room(strlen(pattern_hex) + 1);
+    yindorka_span_lengths x = yindorka_lengths(pattern, read_hex(pattern_hex, pattern));
+
+    free(pattern);
+    if (x.number)
+        printf("refused %zu %zu", x.number, x.place);
+    else
+        printf("least %zu", x.least);
+    if (x.limited == 1 && !x.number)
+        printf(" greatest %zu", x.greatest);
+    else if (x.limited || x.greatest || (x.number ? x.least : x.place))
+        printf(" and %zu %zu %zu %zu", x.place, x.least, x.limited, x.greatest);
+    else if (!x.number)
+        printf(" no limit");
+    putchar('\n');
+    return 1;
+}
+
 static int readable(const char *pattern_hex, const char *line_hex)
 {
     uint8_t *pattern = room(strlen(pattern_hex) + 1), *bytes = room(strlen(line_hex) + 1);
@@ -244,6 +266,8 @@ static int call_named(const char *what, char *first, char *second, const char *t
 {
     if (strcmp(what, "groups") == 0)
         return groups(first);
+    if (strcmp(what, "lengths") == 0)
+        return lengths(first);
     if (!second)
         return 0;
     if (strcmp(what, "fields") == 0)

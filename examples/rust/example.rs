@@ -6,7 +6,7 @@ use std::os::unix::ffi::OsStringExt;
 use std::process::exit;
 
 // The library's version, structs and functions, as include/yindorka.h has them.
-const VERSION: u32 = 10500;
+const VERSION: u32 = 10600;
 
 #[repr(C)]
 struct Refusal {

@@ -2,7 +2,8 @@
 
 read(p) -> ('refused', number, place) or ('accepted', written-out pattern). A written-out pattern is ('empty',), ('leaf', set of bytes),
 ('seq', x, y), ('alt', x, y), ('star', x), ('lazy', x) or ('field', x, number): the first eight brackets are fields (request 2 of paper 02), a lazy star is r*? (request 5).
-openings(p) -> the places of an accepted pattern's opening brackets."""
+openings(p) -> the places of an accepted pattern's opening brackets.
+lengths(r) -> the least and the greatest length of a written-out pattern (request 6), in words."""
 
 SPECIAL = b'\\|()[]{}*+?.^$'
 INNER = b'\\][^-'
@@ -221,9 +222,42 @@ def parts(r):
     return 1 + sum(parts(x) for x in below(r))
 
 
+def match_lengths(r):
+    """Every length up to 192 that a match could have, each leaf counted as 1 whatever its set, as the bits of a number."""
+    if r[0] == 'empty':
+        return 1
+    if r[0] == 'leaf':
+        return 2
+    if r[0] == 'seq':
+        return one_after_another(match_lengths(r[1]), match_lengths(r[2]))
+    if r[0] == 'alt':
+        return match_lengths(r[1]) | match_lengths(r[2])
+    if r[0] == 'field':
+        return match_lengths(r[1])
+    each, all_turns = match_lengths(r[1]), 1
+    while all_turns != all_turns | one_after_another(all_turns, each):
+        all_turns |= one_after_another(all_turns, each)
+    return all_turns
+
+
+def one_after_another(x, y):
+    both = 0
+    for n in range(y.bit_length()):
+        if y >> n & 1:
+            both |= x << n
+    return both & (1 << 193) - 1
+
+
+def lengths(r):
+    """The least and the greatest length (request 6 of paper 02). No weight is above 64, so that without a limit, and only then, some length is from 65 to 128."""
+    every = match_lengths(r)
+    least, greatest = (every & -every).bit_length() - 1, every.bit_length() - 1
+    return 'least %d %s' % (least, 'no limit' if greatest > 64 else 'greatest %d' % greatest)
+
+
 def shown(p):
     """What the program `read_patterns` prints for the pattern."""
     a = read(p)
     if a[0] == 'refused':
         return 'refused %d %d' % a[1:]
-    return 'accepted %d %d %d' % (parts(a[1]), len(leaves(a[1])), sum(len(s) for s in leaves(a[1])))
+    return 'accepted %d %d %d %s' % (parts(a[1]), len(leaves(a[1])), sum(len(s) for s in leaves(a[1])), lengths(a[1]))

@@ -5,8 +5,8 @@ use Rattle.lines.proofs.Exchanging.{nothing-written}
 use Rattle.ask.proofs.serve.Statement.{statement}
 use Rattle.ask.proofs.serve.Tie as tie
 
-returns-4 : tie.Need-returns-4
-returns-4 c = nothing-written (c .write-out .ensures)
+returns-5 : tie.Need-returns-5
+returns-5 c = nothing-written (c .write-out .ensures)
 
 pub serve-spec : {M : Type 1} → statement M
 serve-spec =
@@ -27,7 +27,12 @@ serve-spec =
     (λ c κs. search needs)
     (λ c κs. search needs)
     (λ c. search needs)
+    (λ c κs. search needs)
     (λ c. search needs)
     (λ c κs. search needs)
     (λ c κs. search needs)
-    returns-4)
+    (λ c. search needs)
+    (λ c. search needs)
+    (λ c κs. search needs)
+    (λ c κs. search needs)
+    returns-5)
