@@ -159,13 +159,13 @@ pub fn up_to(m: usize, n: usize, a: Lengths) -> Lengths
     }
 }
 
-// m copies or more.
-pub fn or_more(m: usize, a: Lengths) -> Lengths
-    ensures more { λ r. ⌜ meaning r ≡ capped (orMore m (meaning a)) ⌝ }
+// n copies or more.
+pub fn or_more(n: usize, a: Lengths) -> Lengths
+    ensures more { λ r. ⌜ meaning r ≡ capped (orMore n (meaning a)) ⌝ }
 {
     let each = a.greatest;
     Lengths {
-        least: product(m, a.least),
+        least: product(n, a.least),
         greatest: unlimited(each),
     }
 }

@@ -1,6 +1,6 @@
 -- The numbers that the library hands over are the lengths of the reader, the spans of the matchers, and the fields.
 -- Assumes nothing.
-use mathlib.Core.Path.{_≡_, refl, sym, ap, _∙_}
+use mathlib.Core.Path.{_≡_, sym, ap, _∙_}
 use Prim.Native.Nat.{ℕ, _+_}
 use mathlib.Core.Bool.{Bool, cond}
 use mathlib.Core.List.{List, [], _∷_}
@@ -22,21 +22,25 @@ use Rattle.matchers.specs.declared.Spans.{Spans}
 use Rattle.matchers.specs.declared.Spans.the-variants.{Nowhere, Located}
 use Rattle.matchers.specs.Cuts.{greedyOf, posixOf}
 use Rattle.matchers.specs.Cuts as Matchers
-use Rattle.yindorka.specs.Calls.{Measures, located, none, Cuts, spanned, nothing, CutsFields}
+use Rattle.yindorka.specs.declared.Refusal.{Refusal}
+use Rattle.yindorka.specs.Calls.{refusalOf, Measures, located, none, Cuts, spanned, nothing, CutsFields}
 
-module _ {p : List ℕ} {r : Reading} (read : ReadRight p r) where
+module _ {p : List ℕ} {r : Reading} (read : ReadRight p r) {x : Refusal} (is : x ≡ refusalOf (r .answer)) where
   -- The lengths of an accepted pattern,
-  pub measures-accepted : {limited bytes : ℕ} {is : Bool} → r .answer ≡ Accepted → is ≡ isLimited (longestOf (r .lengths .greatest)) → limited ≡ cond is 1 0 → bytes ≡ bytesOf (longestOf (r .lengths .greatest))
-      → Measures p (record { number = 0; place = 0; least = r .lengths .least; limited = limited; greatest = bytes })
-  measures-accepted {limited} {bytes} e q f b =
-      let (t, reads, l, g) = accepted-lengths read e in
-      let f′ : limited ≡ cond (isLimited (greatest t)) 1 0 = f ∙ ap (λ x. cond x 1 0) (q ∙ ap isLimited g) in
-      let b′ : bytes ≡ bytesOf (greatest t) = b ∙ ap bytesOf g in
-      record { answer = Due.accepted t; right = reads; is = λ i. record { number = 0; place = 0; least = l i; limited = f′ i; greatest = b′ i } }
+  pub measures-accepted : {limited bytes : ℕ} {b : Bool} → r .answer ≡ Accepted → b ≡ isLimited (longestOf (r .lengths .greatest)) → limited ≡ cond b 1 0 → bytes ≡ bytesOf (longestOf (r .lengths .greatest))
+      → Measures p (record { number = x .number; place = x .place; least = r .lengths .least; limited = limited; greatest = bytes })
+  measures-accepted {limited} {bytes} e q f g =
+      let (t, reads, l, most) = accepted-lengths read e in
+      let a : x ≡ record { number = 0; place = 0 } = is ∙ ap refusalOf e in
+      let flag : limited ≡ cond (isLimited (greatest t)) 1 0 = f ∙ ap (λ b. cond b 1 0) (q ∙ ap isLimited most) in
+      let size : bytes ≡ bytesOf (greatest t) = g ∙ ap bytesOf most in
+      record { answer = Due.accepted t; right = reads; is = λ i. record { number = a i .number; place = a i .place; least = l i; limited = flag i; greatest = size i } }
 
   -- and of a refused one none.
-  pub measures-refused : {n q : ℕ} → r .answer ≡ Refused n q → Measures p (record { number = n; place = q; least = 0; limited = 0; greatest = 0 })
-  measures-refused {n} {q} e = record { answer = Due.refused n q; right = refused-fault read e; is = refl }
+  pub measures-refused : {n q : ℕ} → r .answer ≡ Refused n q → Measures p (record { number = x .number; place = x .place; least = 0; limited = 0; greatest = 0 })
+  measures-refused {n} {q} e =
+      let a : x ≡ record { number = n; place = q } = is ∙ ap refusalOf e in
+      record { answer = Due.refused n q; right = refused-fault read e; is = λ i. record { number = a i .number; place = a i .place; least = 0; limited = 0; greatest = 0 } }
 
 module _ {t : Tables} {w : List ℕ} {s : Spans} (cut : Matchers.Cuts t w s) {old : List ℕ} where
   -- No span,

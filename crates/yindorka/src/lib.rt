@@ -102,21 +102,22 @@ pub extern "C" fn yindorka_lengths(pattern: &[u8]) -> Lengths
     let answer = reading.answer;
     let own = reading.lengths;
     let greatest = own.greatest;
-    let Answer::Refused { number, place } = answer else {
+    let refusal = refusal_of(answer);
+    let Answer::Accepted = answer else {
         return Lengths {
-            number: 0,
-            place: 0,
-            least: own.least,
-            limited: flag(lengths::is_limited(greatest)),
-            greatest: lengths::bytes_of(greatest),
+            number: refusal.number,
+            place: refusal.place,
+            least: 0,
+            limited: 0,
+            greatest: 0,
         };
     };
     Lengths {
-        number: number as usize,
-        place: place,
-        least: 0,
-        limited: 0,
-        greatest: 0,
+        number: refusal.number,
+        place: refusal.place,
+        least: own.least,
+        limited: flag(lengths::is_limited(greatest)),
+        greatest: lengths::bytes_of(greatest),
     }
 }
 
