@@ -14,11 +14,11 @@ use Rattle.grammar.specs.WriteOut.{writeOut}
 use Rattle.grammar.proofs.Size.{leaves-64}
 use Rattle.lengths.specs.Lengths.{Longest, limit, noLimit, least, greatest, LengthBetween}
 use Rattle.lengths.specs.Code.{lengths, capLongest, capped}
-use Rattle.lengths.specs.Written.{shortest, longest, Filled, Reached}
+use Rattle.lengths.specs.Written.{shortest, longest, anyByte, Filled, Matched, Reached}
 use Rattle.lengths.proofs.Capped.{both}
 use Rattle.lengths.proofs.Written.{least-written, greatest-written}
 use Rattle.lengths.proofs.Bounds.{match-between, greedy-between, posix-between, shortest-count, longest-count}
-use Rattle.lengths.proofs.Reached.{least-reached, greatest-reached, posix-whole, greedy-whole}
+use Rattle.lengths.proofs.Reached.{least-reached, greatest-reached, least-could, greatest-could, posix-whole, greedy-whole}
 
 module _ (p : List ℕ) (t : Alternation) (a : Reads p t) where
   longest-is : {g : Longest} → greatest t ≡ g → longest (writeOut t) ≡ g
@@ -53,7 +53,14 @@ module _ (p : List ℕ) (t : Alternation) (a : Reads p t) where
       go noLimit e = refl
       go (limit M) e = ap limit (omega (arith, greatest-64 M e))
 
-  -- Both are reached, if each leaf's set holds some byte.
+  -- Both are reached: by the pattern with every byte in the set of each leaf,
+  pub least-could-match : Matched (anyByte (writeOut t)) (λ n. n ≡ least t)
+  least-could-match = subst (λ l. Matched (anyByte (writeOut t)) (λ n. n ≡ l)) (least-written t) (least-could (writeOut t))
+
+  pub greatest-could-match : Reached (greatest t) (anyByte (writeOut t))
+  greatest-could-match = subst (λ g. Reached g (anyByte (writeOut t))) (greatest-written t (a .formed)) (greatest-could (writeOut t))
+
+  -- and by its own spans, if each leaf's set holds some byte.
   module _ (f : Filled (writeOut t)) where
     pub least-line : (w : List ℕ) × Below 256 w × (greedy (writeOut t) w ≡ span 0 (least t)) × (posix (writeOut t) w ≡ span 0 (least t))
     least-line =

@@ -1,6 +1,6 @@
 -- Both lengths are reached, if each leaf's set holds some byte: by lines that are matched as a whole, and are their own POSIX span.
 -- Assumes nothing.
-use mathlib.Core.Path.{_≡_, refl}
+use mathlib.Core.Path.{_≡_, refl, _∙_, subst}
 use Prim.Native.Nat.{ℕ, zero, suc, _+_, _≤_, _<_}
 use mathlib.Core.Bool.{Bool}
 use mathlib.Core.List.{List, [], _∷_, _++_, append-nil}
@@ -18,7 +18,7 @@ use Rattle.theory.proofs.Equations.{outcomes-all}
 use Rattle.theory.proofs.Matching.{match-ends}
 use Rattle.theory.proofs.Demand.{greedy-takes, posix-takes, greedy-none, one-start}
 use Rattle.lengths.specs.Lengths.{Longest, limit, noLimit, plus, greater, endless}
-use Rattle.lengths.specs.Written.{shortest, longest, Filled, Matched, Reached}
+use Rattle.lengths.specs.Written.{shortest, longest, anyByte, Filled, Matched, Reached}
 use Rattle.lengths.proofs.Bounds.{match-least}
 
 -- A match stays in a line that is longer on both sides.
@@ -131,6 +131,41 @@ greatest-reached (seq x y) f =
 greatest-reached (alt x y) f = reached-greater x y (longest x) (longest y) (greatest-reached x (f .0)) (greatest-reached y (f .1))
 greatest-reached (star how x) f = reached-endless how x (longest x) (greatest-reached x f)
 greatest-reached (field g x) f = reached-bracket g x (longest x) (greatest-reached x f)
+
+-- With every byte in each leaf's set, both lengths are the same, and each leaf's set holds some byte.
+any-shortest : (r : Re) → shortest (anyByte r) ≡ shortest r
+unfolding anyByte shortest
+any-shortest empty = refl
+any-shortest (leaf p s) = refl
+any-shortest (seq x y) = rw (any-shortest x, any-shortest y)
+any-shortest (alt x y) = rw (any-shortest x, any-shortest y)
+any-shortest (star how x) = refl
+any-shortest (field f x) = any-shortest x
+
+any-longest : (r : Re) → longest (anyByte r) ≡ longest r
+unfolding anyByte longest
+any-longest empty = refl
+any-longest (leaf p s) = refl
+any-longest (seq x y) = rw (any-longest x, any-longest y)
+any-longest (alt x y) = rw (any-longest x, any-longest y)
+any-longest (star how x) = rw (any-longest x)
+any-longest (field f x) = any-longest x
+
+any-filled : (r : Re) → Filled (anyByte r)
+unfolding anyByte
+any-filled empty = tt
+any-filled (leaf p s) = (0, omega arith, tt)
+any-filled (seq x y) = (any-filled x, any-filled y)
+any-filled (alt x y) = (any-filled x, any-filled y)
+any-filled (star how x) = any-filled x
+any-filled (field f x) = any-filled x
+
+-- So the least and the greatest length are those that the pattern COULD match, whatever its sets are.
+pub least-could : (r : Re) → Matched (anyByte r) (λ n. n ≡ shortest r)
+least-could r = sized (λ n e. e ∙ any-shortest r) (least-reached (anyByte r) (any-filled r))
+
+pub greatest-could : (r : Re) → Reached (longest r) (anyByte r)
+greatest-could r = subst (λ g. Reached g (anyByte r)) (any-longest r) (greatest-reached (anyByte r) (any-filled r))
 
 -- A line that is matched as a whole is its own POSIX span; of the least length, its greedy span too.
 module _ (r : Re) (w : List ℕ) (m : Matches w r 0 (length w)) where

@@ -2,6 +2,7 @@
 -- Assumes nothing.
 use mathlib.Core.Path.{_≡_}
 use Prim.Native.Nat.{ℕ, _+_, _<_, min}
+use mathlib.Core.Bool.{true}
 use mathlib.Core.List.{List}
 use lib.ListN.{length}
 use lib.Dec.{T}
@@ -25,6 +26,15 @@ longest (seq x y) = plus (longest x) (longest y)
 longest (alt x y) = greater (longest x) (longest y)
 longest (star how x) = endless (longest x)
 longest (field f x) = longest x
+
+-- "Each leaf counted as 1 whatever its set": the pattern with every byte in the set of each leaf.
+unfoldable pub anyByte : Re → Re
+anyByte empty = empty
+anyByte (leaf p s) = leaf p (λ b. true)
+anyByte (seq x y) = seq (anyByte x) (anyByte y)
+anyByte (alt x y) = alt (anyByte x) (anyByte y)
+anyByte (star how x) = star how (anyByte x)
+anyByte (field f x) = field f (anyByte x)
 
 -- Each leaf's set holds some byte.
 abbrev pub Filled : Re → Type 0

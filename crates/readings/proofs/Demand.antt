@@ -1,11 +1,11 @@
--- Demand 2 in its words, about the reply of `cut_line`, what demand 1 says of its refusal, and what request 5 leaves as it was.
+-- Demand 2 in its words, about the reply of `cut_line`, what demand 1 says of its refusal, what request 5 leaves as it was, and what request 6 says of every span.
 -- Assumes nothing.
-use mathlib.Core.Path.{_≡_, refl, sym, ap, _∙_}
+use mathlib.Core.Path.{_≡_, refl, sym, ap, _∙_, subst₂}
 use mathlib.Core.Logic.{_↔_}
 use Prim.Native.Nat.{ℕ}
 use mathlib.Core.List.{List, []}
 use native.Mathlib.Omega.{arith}
-use Rattle.theory.specs.Spans.{nowhere, greedyBy, posixBy}
+use Rattle.theory.specs.Spans.{Span, nowhere, greedyBy, posixBy}
 use Rattle.theory.specs.Base.{turnsFirst}
 use Rattle.theory.specs.Demand.{GreedyTakes, PosixTakes, NoMatch}
 use Rattle.theory.proofs.Demand.{greedy-takes, posix-takes, greedy-none}
@@ -20,8 +20,14 @@ use Rattle.grammar.specs.Code.Reader.{read}
 use Rattle.grammar.proofs.Right.{refuses, not-both}
 use Rattle.grammar.proofs.Eager.{eagerly-posix, unsigned-eager}
 use Rattle.grammar.proofs.Unsigned.{eagerly-reads}
+use Rattle.lengths.specs.Lengths.{least, greatest, LengthBetween}
+use Rattle.lengths.specs.Code.{longestOf}
+use Rattle.lengths.proofs.Accepted.{greedy-length, posix-length}
 use Rattle.reader.specs.declared.Answer.{Answer}
 use Rattle.reader.specs.declared.Answer.the-variants.{Accepted, Refused}
+use Rattle.reader.specs.declared.Reading.{Reading}
+use Rattle.reader.specs.Reading.{ReadRight}
+use Rattle.reader.proofs.Laws.{accepted-lengths}
 use Rattle.matchers.specs.declared.Spans.{Spans}
 use Rattle.matchers.specs.declared.Spans.the-variants.{Nowhere, Located}
 use Rattle.matchers.specs.Cuts.{greedyOf, posixOf}
@@ -83,3 +89,15 @@ module _ {p w : List ℕ} {r : Reply} (h : Replied p w r) where
     -- THE POSIX READING DOES NOT LOOK AT THE SIGNS: the span is the one handed over for the same text without the `?` of its lazy repeats.
     pub cut-unsigned : {q : Reply} → Replied (alternation (eagerly a) []) w q → posixOf (r .spans) ≡ posixOf (q .spans)
     cut-unsigned k = spans-of h a reads .longest ∙ sym (eagerly-posix a w) ∙ sym (spans-of k (eagerly a) (eagerly-reads p a reads) .longest)
+
+-- THE LENGTHS THAT THE READER HANDS BACK BOUND BOTH SPANS THAT ARE HANDED OVER, on every line.
+module _ {p w : List ℕ} {r : Reply} (h : Replied p w r) {x : Reading} (read : ReadRight p x) (accepted : x .answer ≡ Accepted) where
+  abbrev Within : Span → Type 0
+  Within s = LengthBetween (x .lengths .least) (longestOf (x .lengths .greatest)) s
+
+  pub cut-between : Within (greedyOf (r .spans)) × Within (posixOf (r .spans))
+  cut-between =
+      let (t, reads, l, g) = accepted-lengths read accepted in
+      let own : (s : Span) → LengthBetween (least t) (greatest t) s → Within s = λ s. subst₂ (λ n m. LengthBetween n m s) (sym l) (sym g) in
+      let both = spans-of h t reads in
+      (own (greedyOf (r .spans)) (rw (both .greedily) (greedy-length p t reads w)), own (posixOf (r .spans)) (rw (both .longest) (posix-length p t reads w)))
