@@ -8,7 +8,7 @@ use Rattle.grammar.specs.WriteOut.{writeOut}
 use Rattle.grammar.specs.Refusals.{Right}
 use Rattle.grammar.specs.Refusals as Due
 use Rattle.groups.specs.Numbers.{groupsOf}
-use Rattle.lengths.specs.Lengths.{least, greatest}
+use Rattle.lengths.specs.Lengths.{lengths}
 use Rattle.lengths.specs.Code.{limitOf}
 use Rattle.printing.specs.Text.{Printed, RefusedLine, LookingText, LengthsText, Ahead, GroupsLine}
 use Rattle.checker.specs.declared.Verdict.{Verdict}
@@ -39,7 +39,7 @@ pub record Reported (x : List ℕ × List ℕ) (p w : List ℕ) (y : List ℕ ×
 
 -- Before that, for an accepted pattern, how long a match can be (request 6).
 abbrev pub LengthsAhead : Due.Answer → List ℕ → Type 0
-LengthsAhead (Due.accepted t) w = Ahead (LengthsText (least t) (limitOf (greatest t))) w
+LengthsAhead (Due.accepted t) w = Ahead (LengthsText (lengths t .least) (limitOf (lengths t .greatest))) w
 LengthsAhead (Due.refused n q) w = w ≡ []
 
 pub record Detailed (x : List ℕ × List ℕ) (p w : List ℕ) (y : List ℕ × List ℕ) : Type 0 where

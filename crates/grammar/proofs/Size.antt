@@ -95,13 +95,18 @@ unfolding weight
 weight-pos (last q) = omega arith
 weight-pos (or q t) = omega arith
 
-count-bracketed : (n : ℕ) (x : Re) → count (bracketed n x) ≡ count x
-unfolding bracketed count
-count-bracketed n x = go (ltb n maxFields)
+-- A measure that fields do not change is not changed by brackets.
+pub measure-bracketed : {A : Type 0} (m : Re → A) → ((f : ℕ) (x : Re) → m (field f x) ≡ m x) → (n : ℕ) (x : Re) → m (bracketed n x) ≡ m x
+unfolding bracketed
+measure-bracketed m through n x = go (ltb n maxFields)
   where
-    go : (c : Bool) → count (cond c (field (suc n) x) x) ≡ count x
-    go true = refl
+    go : (c : Bool) → m (cond c (field (suc n) x) x) ≡ m x
+    go true = through (suc n) x
     go false = refl
+
+count-bracketed : (n : ℕ) (x : Re) → count (bracketed n x) ≡ count x
+unfolding count
+count-bracketed = measure-bracketed count (λ f x. refl)
 
 mutual
   unfolding count leaves shape weight

@@ -1,6 +1,6 @@
 -- Request 6 for an accepted pattern p, whose tree is t.
 -- Assumes nothing.
-use mathlib.Core.Path.{_≡_, refl, ap, _∙_, subst, subst₂}
+use mathlib.Core.Path.{_≡_, refl, ap, _∙_, subst}
 use Prim.Native.Nat.{ℕ, _≤_, _<_}
 use mathlib.Core.List.{List}
 use native.Mathlib.Omega.{arith}
@@ -12,67 +12,67 @@ use Rattle.grammar.specs.Grammar.{Alternation}
 use Rattle.grammar.specs.Limits.{Reads}
 use Rattle.grammar.specs.WriteOut.{writeOut}
 use Rattle.grammar.proofs.Size.{leaves-64}
-use Rattle.lengths.specs.Lengths.{Longest, limit, noLimit, least, greatest, LengthBetween}
-use Rattle.lengths.specs.Code.{lengths, capLongest, capped}
-use Rattle.lengths.specs.Written.{shortest, longest, anyByte, Filled, Matched, Reached}
-use Rattle.lengths.proofs.Capped.{both}
-use Rattle.lengths.proofs.Written.{least-written, greatest-written}
-use Rattle.lengths.proofs.Bounds.{match-between, greedy-between, posix-between, shortest-count, longest-count}
+use Rattle.lengths.specs.Lengths.{Longest, limit, noLimit, Extent, lengths, LengthBetween}
+use Rattle.lengths.specs.Code.{capLongest, capped}
+use Rattle.lengths.specs.Written.{extent, anyByte, Filled, Matched, Reached}
+use Rattle.lengths.proofs.Sums.{extents}
+use Rattle.lengths.proofs.Written.{lengths-written}
+use Rattle.lengths.proofs.Bounds.{match-between, greedy-between, posix-between, least-count, greatest-count}
 use Rattle.lengths.proofs.Reached.{least-reached, greatest-reached, least-could, greatest-could, posix-whole, greedy-whole}
 
 module _ (p : List ℕ) (t : Alternation) (a : Reads p t) where
-  longest-is : {g : Longest} → greatest t ≡ g → longest (writeOut t) ≡ g
-  longest-is e = greatest-written t (a .formed) ∙ e
+  written : extent (writeOut t) ≡ lengths t
+  written = lengths-written t (a .formed)
 
-  between : (s : Span) → LengthBetween (shortest (writeOut t)) (longest (writeOut t)) s → LengthBetween (least t) (greatest t) s
-  between s h = subst₂ (λ l g. LengthBetween l g s) (least-written t) (greatest-written t (a .formed)) h
+  between : (s : Span) → LengthBetween (extent (writeOut t)) s → LengthBetween (lengths t) s
+  between s h = subst (λ x. LengthBetween x s) written h
 
   -- EVERY MATCH OF FIG. 1 HAS A LENGTH BETWEEN THE TWO,
-  pub match-length : (w : List ℕ) (i j : ℕ) → Matches w (writeOut t) i j → LengthBetween (least t) (greatest t) (span i j)
+  pub match-length : (w : List ℕ) (i j : ℕ) → Matches w (writeOut t) i j → LengthBetween (lengths t) (span i j)
   match-length w i j m = between (span i j) (match-between m)
 
-  -- and so "EVERY SPAN OF EITHER READING HAS A LENGTH BETWEEN THE TWO."
-  pub greedy-length : (w : List ℕ) → LengthBetween (least t) (greatest t) (greedy (writeOut t) w)
+  -- "EVERY SPAN OF EITHER READING HAS A LENGTH BETWEEN THE TWO."
+  pub greedy-length : (w : List ℕ) → LengthBetween (lengths t) (greedy (writeOut t) w)
   greedy-length w = between (greedy (writeOut t) w) (greedy-between (writeOut t) w)
 
-  pub posix-length : (w : List ℕ) → LengthBetween (least t) (greatest t) (posix (writeOut t) w)
+  pub posix-length : (w : List ℕ) → LengthBetween (lengths t) (posix (writeOut t) w)
   posix-length w = between (posix (writeOut t) w) (posix-between (writeOut t) w)
 
   -- No number is above the weight's limit.
-  pub least-64 : least t ≤ 64
-  least-64 = omega (arith, least-written t, shortest-count (writeOut t), leaves-64 p t a)
+  pub least-64 : lengths t .least ≤ 64
+  least-64 = omega (arith, ap (λ x. x .least) written, least-count (writeOut t), leaves-64 p t a)
 
-  pub greatest-64 : (M : ℕ) → greatest t ≡ limit M → M ≤ 64
-  greatest-64 M e = omega (arith, longest-count (writeOut t) M (longest-is e), leaves-64 p t a)
+  pub greatest-64 : (M : ℕ) → lengths t .greatest ≡ limit M → M ≤ 64
+  greatest-64 M e = omega (arith, greatest-count (writeOut t) M (ap (λ x. x .greatest) written ∙ e), leaves-64 p t a)
 
   -- So they are what the code counts.
   pub counted-whole : capped (lengths t) ≡ lengths t
-  counted-whole = both (omega (arith, least-64)) (go (greatest t) refl)
+  counted-whole = extents (omega (arith, least-64)) (go (lengths t .greatest) refl)
     where
-      go : (g : Longest) → greatest t ≡ g → capLongest g ≡ g
+      go : (g : Longest) → lengths t .greatest ≡ g → capLongest g ≡ g
       go noLimit e = refl
       go (limit M) e = ap limit (omega (arith, greatest-64 M e))
 
-  -- Both are reached: by the pattern with every byte in the set of each leaf,
-  pub least-could-match : Matched (anyByte (writeOut t)) (λ n. n ≡ least t)
-  least-could-match = subst (λ l. Matched (anyByte (writeOut t)) (λ n. n ≡ l)) (least-written t) (least-could (writeOut t))
+  -- BOTH ARE REACHED: by the pattern with every byte in the set of each leaf,
+  pub least-could-match : Matched (anyByte (writeOut t)) (λ n. n ≡ lengths t .least)
+  least-could-match = subst (λ x. Matched (anyByte (writeOut t)) (λ n. n ≡ x .least)) written (least-could (writeOut t))
 
-  pub greatest-could-match : Reached (greatest t) (anyByte (writeOut t))
-  greatest-could-match = subst (λ g. Reached g (anyByte (writeOut t))) (greatest-written t (a .formed)) (greatest-could (writeOut t))
+  pub greatest-could-match : Reached (lengths t .greatest) (anyByte (writeOut t))
+  greatest-could-match = subst (λ x. Reached (x .greatest) (anyByte (writeOut t))) written (greatest-could (writeOut t))
 
   -- and by its own spans, if each leaf's set holds some byte.
   module _ (f : Filled (writeOut t)) where
-    pub least-line : (w : List ℕ) × Below 256 w × (greedy (writeOut t) w ≡ span 0 (least t)) × (posix (writeOut t) w ≡ span 0 (least t))
+    pub least-line : (w : List ℕ) × Below 256 w × (greedy (writeOut t) w ≡ span 0 (lengths t .least)) × (posix (writeOut t) w ≡ span 0 (lengths t .least))
     least-line =
         let m = least-reached (writeOut t) f in
-        let e : length (m .line) ≡ least t = m .size ∙ least-written t in
+        let e : length (m .line) ≡ lengths t .least = m .size ∙ ap (λ x. x .least) written in
         (m .line, m .bytes, greedy-whole (writeOut t) (m .line) (m .whole) (m .size) ∙ ap (span 0) e, posix-whole (writeOut t) (m .line) (m .whole) ∙ ap (span 0) e)
 
-    reached : {g : Longest} → greatest t ≡ g → Reached g (writeOut t)
-    reached e = subst (λ g. Reached g (writeOut t)) (longest-is e) (greatest-reached (writeOut t) f)
+    reached : {g : Longest} → lengths t .greatest ≡ g → Reached g (writeOut t)
+    reached e = subst (λ g. Reached g (writeOut t)) (ap (λ x. x .greatest) written ∙ e) (greatest-reached (writeOut t) f)
 
-    pub greatest-line : (M : ℕ) → greatest t ≡ limit M → (w : List ℕ) × Below 256 w × (posix (writeOut t) w ≡ span 0 M)
+    pub greatest-line : (M : ℕ) → lengths t .greatest ≡ limit M → (w : List ℕ) × Below 256 w × (posix (writeOut t) w ≡ span 0 M)
     greatest-line M e = let m = reached e in (m .line, m .bytes, posix-whole (writeOut t) (m .line) (m .whole) ∙ ap (span 0) (m .size))
 
-    pub longer-lines : greatest t ≡ noLimit → (k : ℕ) → (w : List ℕ) × (j : ℕ) × Below 256 w × (k < j) × (posix (writeOut t) w ≡ span 0 j)
+    pub longer-lines : lengths t .greatest ≡ noLimit → (k : ℕ) → (w : List ℕ) × (j : ℕ) × Below 256 w × (k < j) × (posix (writeOut t) w ≡ span 0 j)
     longer-lines e k = let m = reached e k in (m .line, length (m .line), m .bytes, m .size, posix-whole (writeOut t) (m .line) (m .whole))

@@ -2,132 +2,116 @@
 -- Assumes nothing.
 use mathlib.Core.Path.{_≡_, refl}
 use mathlib.Core.Logic.{_⊎_, inl, inr, _↔_, _≢_}
-use Prim.Native.Nat.{ℕ, zero, suc}
+use Prim.Native.Nat.{ℕ, zero, suc, _+_, max}
 use native.Mathlib.Omega.{arith}
 use Rattle.theory.proofs.Tests.{either}
 use Rattle.grammar.specs.Grammar.{digitsValue, Repeat, once, many, more, maybe, exactly, atLeast, between, lazily, Alternation, last, or, Sequence, nothing, part, Atom, byte, dot, class, group}
-use Rattle.lengths.specs.Lengths.{Longest, limit, noLimit, plus, greater, copies, endless, greatestRepeated, greatest, greatests, greatestAtom, Endless, Kept, Unlimited, UnlimitedIn, UnlimitedAtom}
-
-module _ (g h : Longest) where
-  abbrev One : Type 0
-  One = (g ≡ noLimit) ⊎ (h ≡ noLimit)
+use Rattle.lengths.specs.Lengths.{Longest, limit, noLimit, together, copies, endless, Extent, underRepeat, lengths, lengthsWithin, lengthsAtom, Endless, Kept, Unlimited, UnlimitedIn, UnlimitedAtom}
 
 limited : {A : Type 0} {n : ℕ} → limit n ≡ noLimit → A
 limited e = let z : _≡_ {A = ℕ} 0 1 = cc in absurd (omega arith)
 
-plus-inv : (g h : Longest) → plus g h ≡ noLimit → One g h
-plus-inv noLimit h e = inl refl
-plus-inv (limit a) noLimit e = inr refl
-plus-inv (limit a) (limit b) e = limited e
+-- Of two parts: one has none.
+module _ (f : ℕ → ℕ → ℕ) where
+  together-inv : (g h : Longest) → together f g h ≡ noLimit → (g ≡ noLimit) ⊎ (h ≡ noLimit)
+  together-inv noLimit h e = inl refl
+  together-inv (limit a) noLimit e = inr refl
+  together-inv (limit a) (limit b) e = limited e
 
-plus-of : (g h : Longest) → One g h → plus g h ≡ noLimit
-plus-of noLimit h c = refl
-plus-of (limit a) noLimit c = refl
-plus-of (limit a) (limit b) c = either limited limited c
-
-greater-inv : (g h : Longest) → greater g h ≡ noLimit → One g h
-greater-inv noLimit h e = inl refl
-greater-inv (limit a) noLimit e = inr refl
-greater-inv (limit a) (limit b) e = limited e
-
-greater-of : (g h : Longest) → One g h → greater g h ≡ noLimit
-greater-of noLimit h c = refl
-greater-of (limit a) noLimit c = refl
-greater-of (limit a) (limit b) c = either limited limited c
+  together-of : (g h : Longest) → (g ≡ noLimit) ⊎ (h ≡ noLimit) → together f g h ≡ noLimit
+  together-of noLimit h c = refl
+  together-of (limit a) noLimit c = refl
+  together-of (limit a) (limit b) c = either limited limited c
 
 copies-inv : (n : ℕ) (g : Longest) → copies n g ≡ noLimit → (n ≢ 0) × (g ≡ noLimit)
 copies-inv zero g e = limited e
-copies-inv (suc n) g e = (λ q. omega arith, either (λ c. c) (λ c. copies-inv n g c .1) (plus-inv g (copies n g) e))
+copies-inv (suc n) g e = (λ q. omega arith, either (λ c. c) (λ c. copies-inv n g c .1) (together-inv _+_ g (copies n g) e))
 
 copies-of : (n : ℕ) (g : Longest) → n ≢ 0 → g ≡ noLimit → copies n g ≡ noLimit
 copies-of zero g h e = absurd (h refl)
-copies-of (suc n) g h e = plus-of g (copies n g) (inl e)
+copies-of (suc n) g h e = together-of _+_ g (copies n g) (inl e)
 
 endless-inv : (g : Longest) → endless g ≡ noLimit → g ≢ limit 0
 endless-inv noLimit e q = let z : _≡_ {A = ℕ} 0 1 = cc in omega arith
 endless-inv (limit zero) e q = limited e
 endless-inv (limit (suc n)) e q = let z : suc n ≡ 0 = cc in omega arith
 
-endless-of : (g : Longest) → g ≢ limit 0 → endless g ≡ noLimit
-endless-of noLimit h = refl
-endless-of (limit zero) h = absurd (h refl)
-endless-of (limit (suc n)) h = refl
+endless-of : (g : Longest) → (g ≢ limit 0) ⊎ (g ≡ noLimit) → endless g ≡ noLimit
+endless-of noLimit c = refl
+endless-of (limit zero) c = either (λ h. absurd (h refl)) limited c
+endless-of (limit (suc n)) c = refl
 
-positive : {g : Longest} → g ≡ noLimit → g ≢ limit 0
-positive e q = let z : _≡_ {A = ℕ} 0 1 = cc in omega arith
-
+-- Under a repeat.
 abbrev Over : Repeat → Longest → Type 0
 Over r g = (Endless r × (g ≢ limit 0)) ⊎ (Kept r × (g ≡ noLimit))
 
-repeat-inv : (r : Repeat) (g : Longest) → greatestRepeated r g ≡ noLimit → Over r g
-repeat-inv once g e = inr (tt, e)
-repeat-inv many g e = inl (tt, endless-inv g e)
-repeat-inv more g e = inl (tt, endless-inv g e)
-repeat-inv maybe g e = inr (tt, e)
-repeat-inv (exactly m) g e = inr (copies-inv (digitsValue m) g e)
-repeat-inv (atLeast m) g e = inl (tt, endless-inv g e)
-repeat-inv (between m n) g e = inr (copies-inv (digitsValue n) g e)
-repeat-inv (lazily r) g e = repeat-inv r g e
+repeat-inv : (r : Repeat) (x : Extent) → underRepeat r x .greatest ≡ noLimit → Over r (x .greatest)
+repeat-inv once x e = inr (tt, e)
+repeat-inv many x e = inl (tt, endless-inv (x .greatest) e)
+repeat-inv more x e = inl (tt, endless-inv (x .greatest) e)
+repeat-inv maybe x e = inr (tt, copies-inv 1 (x .greatest) e .1)
+repeat-inv (exactly m) x e = inr (copies-inv (digitsValue m) (x .greatest) e)
+repeat-inv (atLeast m) x e = inl (tt, endless-inv (x .greatest) e)
+repeat-inv (between m n) x e = inr (copies-inv (digitsValue n) (x .greatest) e)
+repeat-inv (lazily r) x e = repeat-inv r x e
 
-repeat-of : (r : Repeat) (g : Longest) → Over r g → greatestRepeated r g ≡ noLimit
-repeat-of once g (inl c) = absurd (c .0)
-repeat-of once g (inr c) = c .1
-repeat-of many g (inl c) = endless-of g (c .1)
-repeat-of many g (inr c) = endless-of g (positive (c .1))
-repeat-of more g (inl c) = endless-of g (c .1)
-repeat-of more g (inr c) = endless-of g (positive (c .1))
-repeat-of maybe g (inl c) = absurd (c .0)
-repeat-of maybe g (inr c) = c .1
-repeat-of (exactly m) g (inl c) = absurd (c .0)
-repeat-of (exactly m) g (inr c) = copies-of (digitsValue m) g (c .0) (c .1)
-repeat-of (atLeast m) g (inl c) = endless-of g (c .1)
-repeat-of (atLeast m) g (inr c) = endless-of g (positive (c .1))
-repeat-of (between m n) g (inl c) = absurd (c .0)
-repeat-of (between m n) g (inr c) = copies-of (digitsValue n) g (c .0) (c .1)
-repeat-of (lazily r) g c = repeat-of r g c
+-- What stands over the part says nothing more where the repeat is one of the three.
+over-endless : {A B : Type 0} {g : Longest} → (A × (g ≢ limit 0)) ⊎ (B × (g ≡ noLimit)) → (g ≢ limit 0) ⊎ (g ≡ noLimit)
+over-endless c = either (λ x. inl (x .1)) (λ x. inr (x .1)) c
+
+repeat-of : (r : Repeat) (x : Extent) → Over r (x .greatest) → underRepeat r x .greatest ≡ noLimit
+repeat-of once x c = either (λ a. absurd (a .0)) (λ a. a .1) c
+repeat-of many x c = endless-of (x .greatest) (over-endless c)
+repeat-of more x c = endless-of (x .greatest) (over-endless c)
+repeat-of maybe x c = either (λ a. absurd (a .0)) (λ a. copies-of 1 (x .greatest) (λ q. omega arith) (a .1)) c
+repeat-of (exactly m) x c = either (λ a. absurd (a .0)) (λ a. copies-of (digitsValue m) (x .greatest) (a .0) (a .1)) c
+repeat-of (atLeast m) x c = endless-of (x .greatest) (over-endless c)
+repeat-of (between m n) x c = either (λ a. absurd (a .0)) (λ a. copies-of (digitsValue n) (x .greatest) (a .0) (a .1)) c
+repeat-of (lazily r) x c = repeat-of r x c
 
 mutual
-  unfolding greatest
+  unfolding lengths
 
-  unlimited-of : (t : Alternation) → greatest t ≡ noLimit → Unlimited t
+  unlimited-of : (t : Alternation) → lengths t .greatest ≡ noLimit → Unlimited t
   unlimited-of (last q) e = in-of q e
-  unlimited-of (or q t) e = either (λ c. inl (in-of q c)) (λ c. inr (unlimited-of t c)) (greater-inv (greatests q) (greatest t) e)
+  unlimited-of (or q t) e = either (λ c. inl (in-of q c)) (λ c. inr (unlimited-of t c)) (together-inv max (lengthsWithin q .greatest) (lengths t .greatest) e)
 
-  in-of : (q : Sequence) → greatests q ≡ noLimit → UnlimitedIn q
+  in-of : (q : Sequence) → lengthsWithin q .greatest ≡ noLimit → UnlimitedIn q
   in-of nothing e = limited e
   in-of (part a r q) e =
       either
-      (λ c. either (λ x. inl x) (λ x. inr (inl (x .0, atom-of a (x .1)))) (repeat-inv r (greatestAtom a) c))
+      (λ c. either (λ x. inl x) (λ x. inr (inl (x .0, atom-of a (x .1)))) (repeat-inv r (lengthsAtom a) c))
       (λ c. inr (inr (in-of q c)))
-      (plus-inv (greatestRepeated r (greatestAtom a)) (greatests q) e)
+      (together-inv _+_ (underRepeat r (lengthsAtom a) .greatest) (lengthsWithin q .greatest) e)
 
-  atom-of : (a : Atom) → greatestAtom a ≡ noLimit → UnlimitedAtom a
+  atom-of : (a : Atom) → lengthsAtom a .greatest ≡ noLimit → UnlimitedAtom a
   atom-of (byte x) e = limited e
   atom-of dot e = limited e
   atom-of (class c x l) e = limited e
   atom-of (group t) e = unlimited-of t e
 
 mutual
-  unfolding greatest
+  unfolding lengths
 
-  unlimited-inv : (t : Alternation) → Unlimited t → greatest t ≡ noLimit
+  unlimited-inv : (t : Alternation) → Unlimited t → lengths t .greatest ≡ noLimit
   unlimited-inv (last q) u = in-inv q u
-  unlimited-inv (or q t) u = greater-of (greatests q) (greatest t) (either (λ c. inl (in-inv q c)) (λ c. inr (unlimited-inv t c)) u)
+  unlimited-inv (or q t) u = together-of max (lengthsWithin q .greatest) (lengths t .greatest) (either (λ c. inl (in-inv q c)) (λ c. inr (unlimited-inv t c)) u)
 
-  in-inv : (q : Sequence) → UnlimitedIn q → greatests q ≡ noLimit
+  in-inv : (q : Sequence) → UnlimitedIn q → lengthsWithin q .greatest ≡ noLimit
   in-inv nothing u = absurd u
   in-inv (part a r q) u =
-      plus-of (greatestRepeated r (greatestAtom a)) (greatests q)
+      together-of _+_ (underRepeat r (lengthsAtom a) .greatest) (lengthsWithin q .greatest)
       (either
-      (λ c. inl (repeat-of r (greatestAtom a) (inl c)))
-      (λ c. either (λ x. inl (repeat-of r (greatestAtom a) (inr (x .0, atom-inv a (x .1))))) (λ x. inr (in-inv q x)) c)
+      (λ c. inl (repeat-of r (lengthsAtom a) (inl c)))
+      (λ c. either (λ x. inl (repeat-of r (lengthsAtom a) (inr (x .0, atom-inv a (x .1))))) (λ x. inr (in-inv q x)) c)
       u)
 
-  atom-inv : (a : Atom) → UnlimitedAtom a → greatestAtom a ≡ noLimit
+  atom-inv : (a : Atom) → UnlimitedAtom a → lengthsAtom a .greatest ≡ noLimit
   atom-inv (byte x) u = absurd u
   atom-inv dot u = absurd u
   atom-inv (class c x l) u = absurd u
   atom-inv (group t) u = unlimited-inv t u
 
-pub no-limit-exactly : (t : Alternation) → (greatest t ≡ noLimit) ↔ Unlimited t
+-- "NO LIMIT" exactly if such a repeat is kept.
+pub no-limit-exactly : (t : Alternation) → (lengths t .greatest ≡ noLimit) ↔ Unlimited t
 no-limit-exactly t = (unlimited-of t, unlimited-inv t)

@@ -1,7 +1,7 @@
 -- Both lengths are reached, if each leaf's set holds some byte: by lines that are matched as a whole, and are their own POSIX span.
 -- Assumes nothing.
-use mathlib.Core.Path.{_≡_, refl, _∙_, subst}
-use Prim.Native.Nat.{ℕ, zero, suc, _+_, _≤_, _<_}
+use mathlib.Core.Path.{_≡_, refl, ap, ap₂, _∙_, subst}
+use Prim.Native.Nat.{ℕ, zero, suc, _+_, _≤_, _<_, max}
 use mathlib.Core.Bool.{Bool}
 use mathlib.Core.List.{List, [], _∷_, _++_, append-nil}
 use native.Mathlib.Omega.{arith}
@@ -17,8 +17,8 @@ use Rattle.theory.proofs.Outcomes.{some-in}
 use Rattle.theory.proofs.Equations.{outcomes-all}
 use Rattle.theory.proofs.Matching.{match-ends}
 use Rattle.theory.proofs.Demand.{greedy-takes, posix-takes, greedy-none, one-start}
-use Rattle.lengths.specs.Lengths.{Longest, limit, noLimit, plus, greater, endless}
-use Rattle.lengths.specs.Written.{shortest, longest, anyByte, Filled, Matched, Reached}
+use Rattle.lengths.specs.Lengths.{Longest, limit, noLimit, together, endless, inRow, oneOf, orMore}
+use Rattle.lengths.specs.Written.{extent, anyByte, Filled, Matched, Reached}
 use Rattle.lengths.proofs.Bounds.{match-least}
 
 -- A match stays in a line that is longer on both sides.
@@ -87,27 +87,27 @@ turns m (suc k) =
     }
 
 -- SOME LINE HAS A MATCH OF THE LEAST LENGTH,
-pub least-reached : (r : Re) → Filled r → Matched r (λ n. n ≡ shortest r)
-unfolding shortest
+pub least-reached : (r : Re) → Filled r → Matched r (λ n. n ≡ extent r .least)
+unfolding extent
 least-reached empty f = no-byte refl
 least-reached (leaf p s) f = one-byte f refl
 least-reached (seq x y) f = joined (λ a b e d. omega arith) (least-reached x (f .0)) (least-reached y (f .1))
 least-reached (alt x y) f =
-    elim (decLe (shortest x) (shortest y)) [
+    elim (decLe (extent x .least) (extent y .least)) [
       | yes h ↦ left (sized (λ n e. omega arith) (least-reached x (f .0)))
       | no h ↦ right (sized (λ n e. omega arith) (least-reached y (f .1)))
     ]
-least-reached (star how x) f = no-turn refl
+least-reached (star how x) f = no-turn (omega arith)
 least-reached (field g x) f = bracket (least-reached x f)
 
 -- and one the greatest, or there are longer matches than any number.
 module _ (x y : Re) where
-  reached-plus : (g h : Longest) → Reached g x → Reached h y → Matched x (λ n. Unit {0}) → Matched y (λ n. Unit {0}) → Reached (plus g h) (seq x y)
+  reached-plus : (g h : Longest) → Reached g x → Reached h y → Matched x (λ n. Unit {0}) → Matched y (λ n. Unit {0}) → Reached (together _+_ g h) (seq x y)
   reached-plus noLimit h a b m n = λ k. joined (λ c d p q. omega arith) (a k) n
   reached-plus (limit g) noLimit a b m n = λ k. joined (λ c d p q. omega arith) m (b k)
   reached-plus (limit g) (limit h) a b m n = joined (λ c d p q. omega arith) a b
 
-  reached-greater : (g h : Longest) → Reached g x → Reached h y → Reached (greater g h) (alt x y)
+  reached-greater : (g h : Longest) → Reached g x → Reached h y → Reached (together max g h) (alt x y)
   reached-greater noLimit h a b = λ k. left (a k)
   reached-greater (limit g) noLimit a b = λ k. right (b k)
   reached-greater (limit g) (limit h) a b =
@@ -122,34 +122,25 @@ reached-bracket : (f : ℕ) (x : Re) (g : Longest) → Reached g x → Reached g
 reached-bracket f x noLimit a = λ k. bracket (a k)
 reached-bracket f x (limit n) a = bracket a
 
-pub greatest-reached : (r : Re) → Filled r → Reached (longest r) r
-unfolding longest
+pub greatest-reached : (r : Re) → Filled r → Reached (extent r .greatest) r
+unfolding extent
 greatest-reached empty f = no-byte refl
 greatest-reached (leaf p s) f = one-byte f refl
 greatest-reached (seq x y) f =
-    reached-plus x y (longest x) (longest y) (greatest-reached x (f .0)) (greatest-reached y (f .1)) (sized (λ n e. tt) (least-reached x (f .0))) (sized (λ n e. tt) (least-reached y (f .1)))
-greatest-reached (alt x y) f = reached-greater x y (longest x) (longest y) (greatest-reached x (f .0)) (greatest-reached y (f .1))
-greatest-reached (star how x) f = reached-endless how x (longest x) (greatest-reached x f)
-greatest-reached (field g x) f = reached-bracket g x (longest x) (greatest-reached x f)
+    reached-plus x y (extent x .greatest) (extent y .greatest) (greatest-reached x (f .0)) (greatest-reached y (f .1)) (sized (λ n e. tt) (least-reached x (f .0))) (sized (λ n e. tt) (least-reached y (f .1)))
+greatest-reached (alt x y) f = reached-greater x y (extent x .greatest) (extent y .greatest) (greatest-reached x (f .0)) (greatest-reached y (f .1))
+greatest-reached (star how x) f = reached-endless how x (extent x .greatest) (greatest-reached x f)
+greatest-reached (field g x) f = reached-bracket g x (extent x .greatest) (greatest-reached x f)
 
 -- With every byte in each leaf's set, both lengths are the same, and each leaf's set holds some byte.
-any-shortest : (r : Re) → shortest (anyByte r) ≡ shortest r
-unfolding anyByte shortest
-any-shortest empty = refl
-any-shortest (leaf p s) = refl
-any-shortest (seq x y) = rw (any-shortest x, any-shortest y)
-any-shortest (alt x y) = rw (any-shortest x, any-shortest y)
-any-shortest (star how x) = refl
-any-shortest (field f x) = any-shortest x
-
-any-longest : (r : Re) → longest (anyByte r) ≡ longest r
-unfolding anyByte longest
-any-longest empty = refl
-any-longest (leaf p s) = refl
-any-longest (seq x y) = rw (any-longest x, any-longest y)
-any-longest (alt x y) = rw (any-longest x, any-longest y)
-any-longest (star how x) = rw (any-longest x)
-any-longest (field f x) = any-longest x
+any-extent : (r : Re) → extent (anyByte r) ≡ extent r
+unfolding anyByte extent
+any-extent empty = refl
+any-extent (leaf p s) = refl
+any-extent (seq x y) = ap₂ inRow (any-extent x) (any-extent y)
+any-extent (alt x y) = ap₂ oneOf (any-extent x) (any-extent y)
+any-extent (star how x) = ap (orMore 0) (any-extent x)
+any-extent (field f x) = any-extent x
 
 any-filled : (r : Re) → Filled (anyByte r)
 unfolding anyByte
@@ -160,12 +151,12 @@ any-filled (alt x y) = (any-filled x, any-filled y)
 any-filled (star how x) = any-filled x
 any-filled (field f x) = any-filled x
 
--- So the least and the greatest length are those that the pattern COULD match, whatever its sets are.
-pub least-could : (r : Re) → Matched (anyByte r) (λ n. n ≡ shortest r)
-least-could r = sized (λ n e. e ∙ any-shortest r) (least-reached (anyByte r) (any-filled r))
+-- So the least and the greatest length are those that the pattern could match, whatever its sets are.
+pub least-could : (r : Re) → Matched (anyByte r) (λ n. n ≡ extent r .least)
+least-could r = sized (λ n e. e ∙ ap (λ x. x .least) (any-extent r)) (least-reached (anyByte r) (any-filled r))
 
-pub greatest-could : (r : Re) → Reached (longest r) (anyByte r)
-greatest-could r = subst (λ g. Reached g (anyByte r)) (any-longest r) (greatest-reached (anyByte r) (any-filled r))
+pub greatest-could : (r : Re) → Reached (extent r .greatest) (anyByte r)
+greatest-could r = subst (λ x. Reached (x .greatest) (anyByte r)) (any-extent r) (greatest-reached (anyByte r) (any-filled r))
 
 -- A line that is matched as a whole is its own POSIX span; of the least length, its greedy span too.
 module _ (r : Re) (w : List ℕ) (m : Matches w r 0 (length w)) where
@@ -181,7 +172,7 @@ module _ (r : Re) (w : List ℕ) (m : Matches w r 0 (length w)) where
         greatest = within;
       }
 
-  pub greedy-whole : length w ≡ shortest r → greedy r w ≡ span 0 (length w)
+  pub greedy-whole : length w ≡ extent r .least → greedy r w ≡ span 0 (length w)
   greedy-whole e = go (greedy r w) refl
     where
       go : (s : Span) → greedy r w ≡ s → s ≡ span 0 (length w)

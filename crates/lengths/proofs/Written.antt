@@ -1,187 +1,104 @@
 -- The least and the greatest length of a tree are those of its written-out pattern.
 -- Assumes nothing.
 use mathlib.Core.Path.{_≡_, refl, sym, ap, ap₂, _∙_}
-use Prim.Native.Nat.{ℕ, zero, suc, _+_, _*_, _-_, min}
-use mathlib.Core.Bool.{Bool, true, false, _&&_, cond}
+use Prim.Native.Nat.{ℕ, zero, suc, _+_, _*_, _-_}
 use mathlib.Core.List.{List, [], _∷_, _++_}
 use native.Mathlib.Omega.{arith}
 use native.Mathlib.Nat.{zero-mul, suc-mul}
 use lib.ListN.{replicate}
-use lib.Dec.{T, leb, leb→le, ltb}
 use Rattle.theory.specs.Pattern.{Manner, eager, lazy, Re, empty, leaf, seq, alt, star, field, opt, count, number}
-use Rattle.grammar.specs.Grammar.{Digits, digitsValue, Repeat, once, many, more, maybe, exactly, atLeast, between, lazily, Alternation, last, or, Sequence, nothing, part, Atom, byte, dot, class, group, WfAlternation, WfSequence, WfAtom, WfRepeat}
-use Rattle.grammar.specs.Brackets.{bracketsWithin, bracketsAtom, maxFields}
+use Rattle.grammar.specs.Grammar.{digitsValue, Repeat, once, many, more, maybe, exactly, atLeast, between, lazily, Alternation, last, or, Sequence, nothing, part, Atom, byte, dot, class, group, WfAlternation, WfSequence, WfAtom, WfRepeat}
+use Rattle.grammar.specs.Brackets.{bracketsWithin, bracketsAtom}
 use Rattle.grammar.specs.WriteOut.{chain, optional, repeatBy, bracketed, shape, parts, shapeAtom, writeOut}
-use Rattle.grammar.proofs.Size.{count-sum}
-use Rattle.lengths.specs.Lengths.{Longest, limit, plus, greater, copies, endless, leastRepeated, greatestRepeated, least, leasts, leastAtom, greatest, greatests, greatestAtom}
-use Rattle.lengths.specs.Written.{shortest, longest}
-use Rattle.lengths.proofs.Sums.{plus-assoc, plus-zero, zero-plus, greater-zero, zero-greater, copies-add, plus-endless, copies-endless, total, total-append, total-chain}
+use Rattle.grammar.proofs.Size.{count-sum, measure-bracketed}
+use Rattle.lengths.specs.Lengths.{copies, endless, Extent, noByte, inRow, oneOf, upTo, orMore, underRepeat, lengths, lengthsWithin, lengthsAtom}
+use Rattle.lengths.specs.Written.{extent}
+use Rattle.lengths.proofs.Sums.{extents, plus-zero, greater-zero, zero-greater, copies-add, copies-endless, row-none, total, total-append, total-chain}
 
--- The numbers of the leaves count for nothing.
-number-shortest : (n : ℕ) (r : Re) → shortest (number n r) ≡ shortest r
-unfolding number shortest
-number-shortest n empty = refl
-number-shortest n (leaf p s) = refl
-number-shortest n (seq x y) = rw (number-shortest n x, number-shortest (n + count x) y)
-number-shortest n (alt x y) = rw (number-shortest n x, number-shortest (n + count x) y)
-number-shortest n (star how x) = refl
-number-shortest n (field f x) = rw (number-shortest n x)
+-- The numbers of the leaves count for nothing,
+number-extent : (n : ℕ) (r : Re) → extent (number n r) ≡ extent r
+unfolding number extent
+number-extent n empty = refl
+number-extent n (leaf p s) = refl
+number-extent n (seq x y) = ap₂ inRow (number-extent n x) (number-extent (n + count x) y)
+number-extent n (alt x y) = ap₂ oneOf (number-extent n x) (number-extent (n + count x) y)
+number-extent n (star how x) = ap (orMore 0) (number-extent n x)
+number-extent n (field f x) = number-extent n x
 
-number-longest : (n : ℕ) (r : Re) → longest (number n r) ≡ longest r
-unfolding number longest
-number-longest n empty = refl
-number-longest n (leaf p s) = refl
-number-longest n (seq x y) = rw (number-longest n x, number-longest (n + count x) y)
-number-longest n (alt x y) = rw (number-longest n x, number-longest (n + count x) y)
-number-longest n (star how x) = rw (number-longest n x)
-number-longest n (field f x) = rw (number-longest n x)
+-- nor do brackets.
+bracket-extent : (n : ℕ) (x : Re) → extent (bracketed n x) ≡ extent x
+unfolding extent
+bracket-extent = measure-bracketed extent (λ f x. refl)
 
--- Nor do brackets, for a measure that passes through fields.
-through-bracket : {A : Type 0} (m : Re → A) → ((f : ℕ) (x : Re) → m (field f x) ≡ m x) → (n : ℕ) (x : Re) → m (bracketed n x) ≡ m x
-unfolding bracketed
-through-bracket m through n x = go (ltb n maxFields)
-  where
-    go : (c : Bool) → m (cond c (field (suc n) x) x) ≡ m x
-    go true = through (suc n) x
-    go false = refl
+-- Parts in a row, copies and optional copies.
+abbrev row : List Re → Extent
+row = total extent
 
--- The least length.
-abbrev sum : List Re → ℕ
-sum = total 0 _+_ shortest
+row-chain : (l : List Re) → extent (chain l) ≡ row l
+unfolding extent
+row-chain = total-chain extent refl (λ x y. refl)
 
-sum-append : (l m : List Re) → sum (l ++ m) ≡ sum l + sum m
-sum-append = total-append 0 _+_ shortest (λ a. omega arith) (λ a. omega arith) (λ a b c. omega arith)
+row-copies : (n : ℕ) (x : Re) → row (replicate n x) ≡ upTo n n (extent x)
+row-copies zero x = extents (sym (zero-mul (extent x .least))) refl
+row-copies (suc n) x = ap (inRow (extent x)) (row-copies n x) ∙ extents (omega (arith, suc-mul n (extent x .least))) refl
 
-sum-chain : (l : List Re) → shortest (chain l) ≡ sum l
-unfolding shortest
-sum-chain = total-chain 0 _+_ shortest (λ a. omega arith) (λ a. omega arith) (λ a b c. omega arith) refl (λ x y. refl)
+opt-extent : (how : Manner) (x : Re) → extent (opt how x) ≡ upTo 0 1 (extent x)
+unfolding extent
+opt-extent eager x = extents (omega arith) (greater-zero (extent x .greatest) ∙ sym (plus-zero (extent x .greatest)))
+opt-extent lazy x = extents (omega arith) (zero-greater (extent x .greatest) ∙ sym (plus-zero (extent x .greatest)))
 
-sum-copies : (n : ℕ) (x : Re) → sum (replicate n x) ≡ n * shortest x
-sum-copies zero x = sym (zero-mul (shortest x))
-sum-copies (suc n) x = omega (arith, sum-copies n x, suc-mul n (shortest x))
-
-shortest-opt : (how : Manner) (x : Re) → shortest (opt how x) ≡ 0
-unfolding shortest
-shortest-opt eager x = omega arith
-shortest-opt lazy x = omega arith
-
-sum-optional : (how : Manner) (k : ℕ) (x : Re) → sum (optional how k x) ≡ 0
+row-optional : (how : Manner) (k : ℕ) (x : Re) → row (optional how k x) ≡ upTo 0 k (extent x)
 unfolding optional
-sum-optional how zero x = refl
-sum-optional how (suc k) x = omega (arith, shortest-opt how (chain (x ∷ optional how k x)))
+row-optional how zero x = extents (omega arith) refl
+row-optional how (suc k) x =
+    row-none (extent (opt how (chain (x ∷ optional how k x))))
+    ∙ opt-extent how (chain (x ∷ optional how k x))
+    ∙ ap (upTo 0 1) (row-chain (x ∷ optional how k x) ∙ ap (inRow (extent x)) (row-optional how k x))
+    ∙ extents (omega arith) (plus-zero (copies (suc k) (extent x .greatest)))
 
-shortest-repeat : (how : Manner) (r : Repeat) (x : Re) → shortest (repeatBy how r x) ≡ leastRepeated r (shortest x)
-unfolding shortest
-shortest-repeat how once x = refl
-shortest-repeat how many x = refl
-shortest-repeat how more x = omega (arith, sum-chain (x ∷ star how x ∷ []))
-shortest-repeat how maybe x = shortest-opt how x
-shortest-repeat how (exactly m) x = sum-chain (replicate (digitsValue m) x) ∙ sum-copies (digitsValue m) x
-shortest-repeat how (atLeast m) x =
-    omega (
-      arith,
-      sum-chain (replicate (digitsValue m) x ++ (star how x ∷ [])),
-      sum-append (replicate (digitsValue m) x) (star how x ∷ []),
-      sum-copies (digitsValue m) x,
-    )
-shortest-repeat how (between m n) x =
-    omega (
-      arith,
-      sum-chain (replicate (digitsValue m) x ++ optional how (digitsValue n - digitsValue m) x),
-      sum-append (replicate (digitsValue m) x) (optional how (digitsValue n - digitsValue m) x),
-      sum-copies (digitsValue m) x,
-      sum-optional how (digitsValue n - digitsValue m) x,
-    )
-shortest-repeat how (lazily r) x = shortest-repeat lazy r x
+-- m copies and the star of one.
+row-more : (how : Manner) (m : ℕ) (x : Re) → row (replicate m x ++ (star how x ∷ [])) ≡ orMore m (extent x)
+unfolding extent
+row-more how m x =
+    total-append extent (replicate m x) (star how x ∷ [])
+    ∙ ap₂ inRow (row-copies m x) (row-none (orMore 0 (extent x)))
+    ∙ extents (omega arith) (copies-endless m (extent x .greatest))
+
+repeat-extent : (how : Manner) (r : Repeat) (x : Re) → WfRepeat r → extent (repeatBy how r x) ≡ underRepeat r (extent x)
+unfolding extent
+repeat-extent how once x v = refl
+repeat-extent how many x v = refl
+repeat-extent how more x v = row-chain (x ∷ star how x ∷ []) ∙ row-more how 1 x
+repeat-extent how maybe x v = opt-extent how x
+repeat-extent how (exactly m) x v = row-chain (replicate (digitsValue m) x) ∙ row-copies (digitsValue m) x
+repeat-extent how (atLeast m) x v = row-chain (replicate (digitsValue m) x ++ (star how x ∷ [])) ∙ row-more how (digitsValue m) x
+repeat-extent how (between m n) x v =
+    row-chain (replicate (digitsValue m) x ++ optional how (digitsValue n - digitsValue m) x)
+    ∙ total-append extent (replicate (digitsValue m) x) (optional how (digitsValue n - digitsValue m) x)
+    ∙ ap₂ inRow (row-copies (digitsValue m) x) (row-optional how (digitsValue n - digitsValue m) x)
+    ∙ extents (omega arith)
+    (copies-add (digitsValue m) (digitsValue n - digitsValue m) (extent x .greatest) ∙ ap (λ k. copies k (extent x .greatest)) (count-sum m n v))
+repeat-extent how (lazily r) x v = repeat-extent lazy r x (v .0)
 
 mutual
-  unfolding shortest shape least
+  unfolding extent shape lengths
 
-  shortest-alternation : (t : Alternation) (n : ℕ) → shortest (shape t n) ≡ least t
-  shortest-alternation (last q) n = sum-chain (parts q n) ∙ sum-parts q n
-  shortest-alternation (or q t) n = ap₂ min (sum-chain (parts q n) ∙ sum-parts q n) (shortest-alternation t (n + bracketsWithin q))
+  alternation-extent : (t : Alternation) (n : ℕ) → WfAlternation t → extent (shape t n) ≡ lengths t
+  alternation-extent (last q) n w = row-chain (parts q n) ∙ sequence-extent q n w
+  alternation-extent (or q t) n w = ap₂ oneOf (row-chain (parts q n) ∙ sequence-extent q n (w .0)) (alternation-extent t (n + bracketsWithin q) (w .1))
 
-  sum-parts : (q : Sequence) (n : ℕ) → sum (parts q n) ≡ leasts q
-  sum-parts nothing n = refl
-  sum-parts (part a r q) n = ap₂ _+_ (shortest-repeat eager r (shapeAtom a n) ∙ ap (leastRepeated r) (shortest-atom a n)) (sum-parts q (n + bracketsAtom a))
+  sequence-extent : (q : Sequence) (n : ℕ) → WfSequence q → row (parts q n) ≡ lengthsWithin q
+  sequence-extent nothing n w = refl
+  sequence-extent (part a r q) n w =
+      ap₂ inRow (repeat-extent eager r (shapeAtom a n) (w .1) ∙ ap (underRepeat r) (atom-extent a n (w .0))) (sequence-extent q (n + bracketsAtom a) (w .2))
 
-  shortest-atom : (a : Atom) (n : ℕ) → shortest (shapeAtom a n) ≡ leastAtom a
-  shortest-atom (byte x) n = refl
-  shortest-atom dot n = refl
-  shortest-atom (class c x l) n = refl
-  shortest-atom (group t) n = through-bracket shortest (λ f x. refl) n (shape t (suc n)) ∙ shortest-alternation t (suc n)
+  atom-extent : (a : Atom) (n : ℕ) → WfAtom a → extent (shapeAtom a n) ≡ lengthsAtom a
+  atom-extent (byte x) n w = refl
+  atom-extent dot n w = refl
+  atom-extent (class c x l) n w = refl
+  atom-extent (group t) n w = bracket-extent n (shape t (suc n)) ∙ alternation-extent t (suc n) w
 
-pub least-written : (t : Alternation) → shortest (writeOut t) ≡ least t
+-- OF THE TREE AND WRITTEN OUT: the same lengths.
+pub lengths-written : (t : Alternation) → WfAlternation t → extent (writeOut t) ≡ lengths t
 unfolding writeOut
-least-written t = number-shortest 0 (shape t 0) ∙ shortest-alternation t 0
-
--- The greatest length.
-abbrev reach : List Re → Longest
-reach = total (limit 0) plus longest
-
-reach-append : (l m : List Re) → reach (l ++ m) ≡ plus (reach l) (reach m)
-reach-append = total-append (limit 0) plus longest zero-plus plus-zero plus-assoc
-
-reach-chain : (l : List Re) → longest (chain l) ≡ reach l
-unfolding longest
-reach-chain = total-chain (limit 0) plus longest zero-plus plus-zero plus-assoc refl (λ x y. refl)
-
-reach-copies : (n : ℕ) (x : Re) → reach (replicate n x) ≡ copies n (longest x)
-reach-copies zero x = refl
-reach-copies (suc n) x = ap (plus (longest x)) (reach-copies n x)
-
-longest-opt : (how : Manner) (x : Re) → longest (opt how x) ≡ longest x
-unfolding longest
-longest-opt eager x = greater-zero (longest x)
-longest-opt lazy x = zero-greater (longest x)
-
-reach-optional : (how : Manner) (k : ℕ) (x : Re) → reach (optional how k x) ≡ copies k (longest x)
-unfolding optional
-reach-optional how zero x = refl
-reach-optional how (suc k) x =
-    plus-zero (longest (opt how (chain (x ∷ optional how k x))))
-    ∙ longest-opt how (chain (x ∷ optional how k x))
-    ∙ reach-chain (x ∷ optional how k x)
-    ∙ ap (plus (longest x)) (reach-optional how k x)
-
-longest-repeat : (how : Manner) (r : Repeat) (x : Re) → WfRepeat r → longest (repeatBy how r x) ≡ greatestRepeated r (longest x)
-unfolding longest
-longest-repeat how once x v = refl
-longest-repeat how many x v = refl
-longest-repeat how more x v = reach-chain (x ∷ star how x ∷ []) ∙ ap (plus (longest x)) (plus-zero (endless (longest x))) ∙ plus-endless (longest x)
-longest-repeat how maybe x v = longest-opt how x
-longest-repeat how (exactly m) x v = reach-chain (replicate (digitsValue m) x) ∙ reach-copies (digitsValue m) x
-longest-repeat how (atLeast m) x v =
-    reach-chain (replicate (digitsValue m) x ++ (star how x ∷ []))
-    ∙ reach-append (replicate (digitsValue m) x) (star how x ∷ [])
-    ∙ ap₂ plus (reach-copies (digitsValue m) x) (plus-zero (endless (longest x)))
-    ∙ copies-endless (digitsValue m) (longest x)
-longest-repeat how (between m n) x v =
-    reach-chain (replicate (digitsValue m) x ++ optional how (digitsValue n - digitsValue m) x)
-    ∙ reach-append (replicate (digitsValue m) x) (optional how (digitsValue n - digitsValue m) x)
-    ∙ ap₂ plus (reach-copies (digitsValue m) x) (reach-optional how (digitsValue n - digitsValue m) x)
-    ∙ copies-add (digitsValue m) (digitsValue n - digitsValue m) (longest x)
-    ∙ ap (λ k. copies k (longest x)) (count-sum m n v)
-longest-repeat how (lazily r) x v = longest-repeat lazy r x (v .0)
-
-mutual
-  unfolding longest shape greatest
-
-  longest-alternation : (t : Alternation) (n : ℕ) → WfAlternation t → longest (shape t n) ≡ greatest t
-  longest-alternation (last q) n w = reach-chain (parts q n) ∙ reach-parts q n w
-  longest-alternation (or q t) n w = ap₂ greater (reach-chain (parts q n) ∙ reach-parts q n (w .0)) (longest-alternation t (n + bracketsWithin q) (w .1))
-
-  reach-parts : (q : Sequence) (n : ℕ) → WfSequence q → reach (parts q n) ≡ greatests q
-  reach-parts nothing n w = refl
-  reach-parts (part a r q) n w =
-      ap₂ plus (longest-repeat eager r (shapeAtom a n) (w .1) ∙ ap (greatestRepeated r) (longest-atom a n (w .0))) (reach-parts q (n + bracketsAtom a) (w .2))
-
-  longest-atom : (a : Atom) (n : ℕ) → WfAtom a → longest (shapeAtom a n) ≡ greatestAtom a
-  longest-atom (byte x) n w = refl
-  longest-atom dot n w = refl
-  longest-atom (class c x l) n w = refl
-  longest-atom (group t) n w = through-bracket longest (λ f x. refl) n (shape t (suc n)) ∙ longest-alternation t (suc n) w
-
-pub greatest-written : (t : Alternation) → WfAlternation t → longest (writeOut t) ≡ greatest t
-unfolding writeOut
-greatest-written t w = number-longest 0 (shape t 0) ∙ longest-alternation t 0 w
+lengths-written t w = number-extent 0 (shape t 0) ∙ alternation-extent t 0 w

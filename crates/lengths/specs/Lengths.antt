@@ -10,22 +10,16 @@ pub data Longest : Type 0 where
   limit : ℕ → Longest
   noLimit : Longest
 
--- Of two parts in a row,
-abbrev pub plus : Longest → Longest → Longest
-plus noLimit h = noLimit
-plus (limit a) noLimit = noLimit
-plus (limit a) (limit b) = limit (a + b)
+-- Of two parts, from the numbers of both: without a limit of one there is none.
+abbrev pub together : (ℕ → ℕ → ℕ) → Longest → Longest → Longest
+together f noLimit h = noLimit
+together f (limit a) noLimit = noLimit
+together f (limit a) (limit b) = limit (f a b)
 
--- of two parts, of which one is taken,
-abbrev pub greater : Longest → Longest → Longest
-greater noLimit h = noLimit
-greater (limit a) noLimit = noLimit
-greater (limit a) (limit b) = limit (max a b)
-
--- of n copies in a row: "under `{0}` or `{0,0}` it is not kept",
+-- Of n copies in a row: "under `{0}` or `{0,0}` it is not kept",
 abbrev pub copies : ℕ → Longest → Longest
 copies zero g = limit 0
-copies (suc n) g = plus g (copies n g)
+copies (suc n) g = together _+_ g (copies n g)
 
 -- and under `*`: "no limit" over "a part whose greatest is not 0".
 abbrev pub endless : Longest → Longest
@@ -33,58 +27,58 @@ endless noLimit = noLimit
 endless (limit zero) = limit 0
 endless (limit (suc n)) = noLimit
 
--- The least and the greatest length of a repeat over a part.
-abbrev pub leastRepeated : Repeat → ℕ → ℕ
-leastRepeated once l = l
-leastRepeated many l = 0
-leastRepeated more l = l
-leastRepeated maybe l = 0
-leastRepeated (exactly m) l = digitsValue m * l
-leastRepeated (atLeast m) l = digitsValue m * l
-leastRepeated (between m n) l = digitsValue m * l
-leastRepeated (lazily r) l = leastRepeated r l
+-- The least and the greatest length of a part:
+pub record Extent : Type 0 where
+  pub least : ℕ
+  pub greatest : Longest
 
-abbrev pub greatestRepeated : Repeat → Longest → Longest
-greatestRepeated once g = g
-greatestRepeated many g = endless g
-greatestRepeated more g = endless g
-greatestRepeated maybe g = g
-greatestRepeated (exactly m) g = copies (digitsValue m) g
-greatestRepeated (atLeast m) g = endless g
-greatestRepeated (between m n) g = copies (digitsValue n) g
-greatestRepeated (lazily r) g = greatestRepeated r g
+-- of the empty sequence, of a leaf,
+abbrev pub noByte : Extent
+noByte = record { least = 0; greatest = limit 0 }
 
--- "The least length."
+abbrev pub oneByte : Extent
+oneByte = record { least = 1; greatest = limit 1 }
+
+-- of two parts in a row, of two of which one is taken,
+abbrev pub inRow : Extent → Extent → Extent
+inRow x y = record { least = x .least + y .least; greatest = together _+_ (x .greatest) (y .greatest) }
+
+abbrev pub oneOf : Extent → Extent → Extent
+oneOf x y = record { least = min (x .least) (y .least); greatest = together max (x .greatest) (y .greatest) }
+
+-- of m copies up to n, and of m copies or more;
+abbrev pub upTo : ℕ → ℕ → Extent → Extent
+upTo m n x = record { least = m * x .least; greatest = copies n (x .greatest) }
+
+abbrev pub orMore : ℕ → Extent → Extent
+orMore m x = record { least = m * x .least; greatest = endless (x .greatest) }
+
+-- of a repeat over a part,
+abbrev pub underRepeat : Repeat → Extent → Extent
+underRepeat once x = x
+underRepeat many x = orMore 0 x
+underRepeat more x = orMore 1 x
+underRepeat maybe x = upTo 0 1 x
+underRepeat (exactly m) x = upTo (digitsValue m) (digitsValue m) x
+underRepeat (atLeast m) x = orMore (digitsValue m) x
+underRepeat (between m n) x = upTo (digitsValue m) (digitsValue n) x
+underRepeat (lazily r) x = underRepeat r x
+
+-- and of a pattern.
 unfoldable mutual
-  pub least : Alternation → ℕ
-  least (last q) = leasts q
-  least (or q t) = min (leasts q) (least t)
+  pub lengths : Alternation → Extent
+  lengths (last q) = lengthsWithin q
+  lengths (or q t) = oneOf (lengthsWithin q) (lengths t)
 
-  pub leasts : Sequence → ℕ
-  leasts nothing = 0
-  leasts (part a r q) = leastRepeated r (leastAtom a) + leasts q
+  pub lengthsWithin : Sequence → Extent
+  lengthsWithin nothing = noByte
+  lengthsWithin (part a r q) = inRow (underRepeat r (lengthsAtom a)) (lengthsWithin q)
 
-  pub leastAtom : Atom → ℕ
-  leastAtom (byte x) = 1
-  leastAtom dot = 1
-  leastAtom (class c x l) = 1
-  leastAtom (group t) = least t
-
--- "The greatest length."
-unfoldable mutual
-  pub greatest : Alternation → Longest
-  greatest (last q) = greatests q
-  greatest (or q t) = greater (greatests q) (greatest t)
-
-  pub greatests : Sequence → Longest
-  greatests nothing = limit 0
-  greatests (part a r q) = plus (greatestRepeated r (greatestAtom a)) (greatests q)
-
-  pub greatestAtom : Atom → Longest
-  greatestAtom (byte x) = limit 1
-  greatestAtom dot = limit 1
-  greatestAtom (class c x l) = limit 1
-  greatestAtom (group t) = greatest t
+  pub lengthsAtom : Atom → Extent
+  lengthsAtom (byte x) = oneByte
+  lengthsAtom dot = oneByte
+  lengthsAtom (class c x l) = oneByte
+  lengthsAtom (group t) = lengths t
 
 -- "The greatest is 'no limit' if `*`, `+` or `{m,}` stands over a part whose greatest is not 0 and the part is kept; under `{0}` or `{0,0}` it is not kept."
 -- In these words (`no-limit-exactly`): the repeat is one of the three,
@@ -117,7 +111,7 @@ abbrev mutual
 
   pub UnlimitedIn : Sequence → Type 0
   UnlimitedIn nothing = ⊥
-  UnlimitedIn (part a r q) = (Endless r × (greatestAtom a ≢ limit 0)) ⊎ ((Kept r × UnlimitedAtom a) ⊎ UnlimitedIn q)
+  UnlimitedIn (part a r q) = (Endless r × (lengthsAtom a .greatest ≢ limit 0)) ⊎ ((Kept r × UnlimitedAtom a) ⊎ UnlimitedIn q)
 
   pub UnlimitedAtom : Atom → Type 0
   UnlimitedAtom (byte x) = ⊥
@@ -131,6 +125,6 @@ NotAbove (limit M) n = n ≤ M
 NotAbove noLimit n = Unit {0}
 
 -- A span "has a length between the two".
-abbrev pub LengthBetween : ℕ → Longest → Span → Type 0
-LengthBetween l g nowhere = Unit {0}
-LengthBetween l g (span i j) = (i ≤ j) × (l ≤ j - i) × NotAbove g (j - i)
+abbrev pub LengthBetween : Extent → Span → Type 0
+LengthBetween x nowhere = Unit {0}
+LengthBetween x (span i j) = (i ≤ j) × (x .least ≤ j - i) × NotAbove (x .greatest) (j - i)

@@ -1,7 +1,7 @@
--- The least and the greatest length of a written-out pattern (`least-written`, `greatest-written`: those of its tree), and lines that reach them.
+-- The least and the greatest length of a written-out pattern (`lengths-written`: those of its tree), and lines that reach them.
 -- Assumes nothing.
 use mathlib.Core.Path.{_≡_}
-use Prim.Native.Nat.{ℕ, _+_, _<_, min}
+use Prim.Native.Nat.{ℕ, _<_}
 use mathlib.Core.Bool.{true}
 use mathlib.Core.List.{List}
 use lib.ListN.{length}
@@ -9,23 +9,15 @@ use lib.Dec.{T}
 use Rattle.theory.specs.Pattern.{Re, empty, leaf, seq, alt, star, field}
 use Rattle.theory.specs.Lines.{Below}
 use Rattle.theory.specs.Matching.{Matches}
-use Rattle.lengths.specs.Lengths.{Longest, limit, noLimit, plus, greater, endless}
+use Rattle.lengths.specs.Lengths.{Longest, limit, noLimit, Extent, noByte, oneByte, inRow, oneOf, orMore}
 
-unfoldable pub shortest : Re → ℕ
-shortest empty = 0
-shortest (leaf p s) = 1
-shortest (seq x y) = shortest x + shortest y
-shortest (alt x y) = min (shortest x) (shortest y)
-shortest (star how x) = 0
-shortest (field f x) = shortest x
-
-unfoldable pub longest : Re → Longest
-longest empty = limit 0
-longest (leaf p s) = limit 1
-longest (seq x y) = plus (longest x) (longest y)
-longest (alt x y) = greater (longest x) (longest y)
-longest (star how x) = endless (longest x)
-longest (field f x) = longest x
+unfoldable pub extent : Re → Extent
+extent empty = noByte
+extent (leaf p s) = oneByte
+extent (seq x y) = inRow (extent x) (extent y)
+extent (alt x y) = oneOf (extent x) (extent y)
+extent (star how x) = orMore 0 (extent x)
+extent (field f x) = extent x
 
 -- "Each leaf counted as 1 whatever its set": the pattern with every byte in the set of each leaf.
 unfoldable pub anyByte : Re → Re

@@ -1,9 +1,9 @@
 // The least and the greatest length that a pattern could match, each leaf counted as 1 whatever its set (request 6), part by part. Above 64 lengths are not told apart: no
 // accepted pattern has such a one, and the patterns that have grow without bound.
 ghost use mathlib.Core.Path.{_≡_};
-ghost use Prim.Native.Nat.{_+_, _*_, max};
-ghost use Rattle.lengths.specs.Lengths.{limit, plus, greater, copies, endless};
-ghost use Rattle.lengths.specs.Code.{longestOf, isLimited, bytesOf, meaning, inRow, oneOf, upTo, orMore, cap, capLongest, capped};
+ghost use Prim.Native.Nat.{_+_, _*_};
+ghost use Rattle.lengths.specs.Lengths.{together, copies, endless, noByte, oneByte, inRow, oneOf, upTo, orMore};
+ghost use Rattle.lengths.specs.Code.{longestOf, isLimited, bytesOf, meaning, ofBoth, cap, capLongest, capped};
 
 // A greatest length: a number of bytes, or none is the greatest.
 pub enum Greatest {
@@ -36,18 +36,22 @@ fn product(n: usize, a: usize) -> usize
     words::least(times * each, ABOVE_LIMIT)
 }
 
-fn larger(a: usize, b: usize) -> usize
-    ensures { λ r. ⌜ r ≡ cap (max a b) ⌝ }
+// The number of two parts from those of both: in a row their sum, else the larger one.
+fn number(in_row: bool, a: usize, b: usize) -> usize
+    ensures { λ r. ⌜ r ≡ cap (ofBoth in_row a b) ⌝ }
 {
+    if in_row {
+        return sum(a, b);
+    }
     if a < b {
         return words::least(b, ABOVE_LIMIT);
     }
     words::least(a, ABOVE_LIMIT)
 }
 
-// Of two parts in a row.
-fn greatest_sum(a: Greatest, b: Greatest) -> Greatest
-    ensures { λ r. ⌜ longestOf r ≡ capLongest (plus (longestOf a) (longestOf b)) ⌝ }
+// Of two parts: in a row, or of which one is taken.
+fn greatest_of(in_row: bool, a: Greatest, b: Greatest) -> Greatest
+    ensures { λ r. ⌜ longestOf r ≡ capLongest (together (ofBoth in_row) (longestOf a) (longestOf b)) ⌝ }
 {
     let Greatest::Limit { bytes: first } = a else {
         return Greatest::NoLimit;
@@ -56,22 +60,7 @@ fn greatest_sum(a: Greatest, b: Greatest) -> Greatest
         return Greatest::NoLimit;
     };
     Greatest::Limit {
-        bytes: sum(first, second),
-    }
-}
-
-// Of two parts, of which one is taken.
-fn greater_of(a: Greatest, b: Greatest) -> Greatest
-    ensures { λ r. ⌜ longestOf r ≡ capLongest (greater (longestOf a) (longestOf b)) ⌝ }
-{
-    let Greatest::Limit { bytes: first } = a else {
-        return Greatest::NoLimit;
-    };
-    let Greatest::Limit { bytes: second } = b else {
-        return Greatest::NoLimit;
-    };
-    Greatest::Limit {
-        bytes: larger(first, second),
+        bytes: number(in_row, first, second),
     }
 }
 
@@ -105,7 +94,7 @@ fn unlimited(a: Greatest) -> Greatest
 
 // The empty sequence.
 pub fn nothing() -> Lengths
-    ensures none { λ r. ⌜ meaning r ≡ (0, limit 0) ⌝ }
+    ensures none { λ r. ⌜ meaning r ≡ noByte ⌝ }
 {
     Lengths {
         least: 0,
@@ -115,7 +104,7 @@ pub fn nothing() -> Lengths
 
 // A leaf.
 pub fn leaf() -> Lengths
-    ensures one { λ r. ⌜ meaning r ≡ (1, limit 1) ⌝ }
+    ensures one { λ r. ⌜ meaning r ≡ oneByte ⌝ }
 {
     Lengths {
         least: 1,
@@ -131,7 +120,7 @@ pub fn in_row(a: Lengths, b: Lengths) -> Lengths
     let second = b.greatest;
     Lengths {
         least: sum(a.least, b.least),
-        greatest: greatest_sum(first, second),
+        greatest: greatest_of(true, first, second),
     }
 }
 
@@ -144,7 +133,7 @@ pub fn one_of(a: Lengths, b: Lengths) -> Lengths
     let smaller = words::least(a.least, b.least);
     Lengths {
         least: words::least(smaller, ABOVE_LIMIT),
-        greatest: greater_of(first, second),
+        greatest: greatest_of(false, first, second),
     }
 }
 

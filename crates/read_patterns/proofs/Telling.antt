@@ -8,7 +8,8 @@ use mathlib.Core.Option.{Option, none, some}
 use Rattle.theory.specs.Pattern.{count}
 use Rattle.grammar.specs.Refusals as Due
 use Rattle.grammar.specs.Code.Tokens.{nodes}
-use Rattle.lengths.specs.Code.{longestOf, isLimited, bytesOf, limitOf, lengths}
+use Rattle.lengths.specs.Lengths.{lengths}
+use Rattle.lengths.specs.Code.{longestOf, isLimited, bytesOf, limitOf}
 use Rattle.printing.specs.Text.{RefusedLine, AcceptedLine}
 use Rattle.reader.specs.declared.Answer.the-variants.{Accepted, Refused}
 use Rattle.reader.specs.declared.Reading.{Reading}
@@ -27,8 +28,8 @@ module _ {p : List ℕ} {r : Reading} (read : ReadRight p r) {w : List ℕ} wher
       let holds = accepted-holds read e in
       let parts : r .pattern .len ≡ nodes _ = holds .parts ∙ ap nodes same in
       let leaves : r .pattern .leaves ≡ count _ = holds .leaves ∙ ap count same in
-      let limit : cond is (some bytes) none ≡ limitOf (lengths t .1) = rw (q, b) (ap (λ x. limitOf (x .1)) long) in
-      record { answer = Due.accepted t; right = reads; line = (members, same-line parts leaves (ap (λ x. x .0) long) limit line) }
+      let limit : cond is (some bytes) none ≡ limitOf (lengths t .greatest) = rw (q, b) (ap (λ x. limitOf (x .greatest)) long) in
+      record { answer = Due.accepted t; right = reads; line = (members, same-line parts leaves (ap (λ x. x .least) long) limit line) }
 
   pub told-refused : {n q : ℕ} → r .answer ≡ Refused n q → RefusedLine n q w → Told p w
   told-refused {n} {q} e line = record { answer = Due.refused n q; right = refused-fault read e; line = line }

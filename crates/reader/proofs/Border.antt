@@ -27,8 +27,8 @@ use Rattle.arrays.specs.declared.Pattern.{Pattern}
 use Rattle.arrays.specs.Decoded.{decode, blank}
 use Rattle.arrays.specs.Finished.{Finished}
 use Rattle.arrays.specs.Finished as Arrays
-use Rattle.lengths.specs.Lengths.{limit}
-use Rattle.lengths.specs.Code.{meaning, lengths}
+use Rattle.lengths.specs.Lengths.{noByte, lengths}
+use Rattle.lengths.specs.Code.{meaning}
 use Rattle.lengths.specs.declared.Lengths.{Lengths}
 use Rattle.lengths.proofs.Accepted.{counted-whole}
 use Rattle.reader.specs.declared.Size.{Size}
@@ -46,7 +46,7 @@ use Rattle.reader.proofs.Begins.{byte-drop, drop-all}
 
 -- What stands beside a refusal says nothing.
 abbrev Bare : Pattern → Brackets → Lengths → Type 0
-Bare x g l = (x ≡ blank) × (g ≡ noBrackets) × (meaning l ≡ (0, limit 0))
+Bare x g l = (x ≡ blank) × (g ≡ noBrackets) × (meaning l ≡ noByte)
 
 pub read-long : (p : List ℕ) (x : Pattern) (g : Brackets) (l : Lengths) → 255 < length p → Bare x g l → ReadRight p (record { answer = Answer.Refused 1 255; pattern = x; brackets = g; lengths = l })
 read-long p x g l h e = record { answer = Due.refused 1 255; right = tooLong h refl refl; means = refl; beside = e .0; counted = e .1; measured = e .2 }

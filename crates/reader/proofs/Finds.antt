@@ -24,8 +24,8 @@ use Rattle.grammar.proofs.Codes.{plain-code, escaped-code, dot-code, class-code
 use Rattle.grammar.proofs.Openings.{within-count, atom-count}
 use Rattle.tokens.specs.Held.{Added, Rewritten}
 use Rattle.scanner.specs.Scanned.{Onward}
-use Rattle.lengths.specs.Lengths.{limit, least, greatest}
-use Rattle.lengths.specs.Code.{meaning, inRow, oneOf, upTo, orMore, lengthsAtom, capped}
+use Rattle.lengths.specs.Lengths.{noByte, oneByte, inRow, oneOf, upTo, orMore, lengths, lengthsAtom}
+use Rattle.lengths.specs.Code.{meaning, capped}
 use Rattle.reader.specs.declared.Size.{Size}
 use Rattle.reader.specs.declared.Part.{Part}
 use Rattle.reader.specs.declared.Part.the-variants.{Read, Refused}
@@ -167,8 +167,8 @@ whole (part a r q) k w l go stop =
     rw (e .0, e .1) w
 
 module _ {p : List ℕ} {at d : ℕ} where
-  pub sequence-stop : {f : List ℕ} {n : ℕ} {u : Brackets} {c : Size} → Sized c 0 (0, limit 0) → Begun p at d → (at < length p → getD p at 0 ≢ 124 → getD p at 0 ≡ 41) → Sequenced p at d at c f n f n u u
-  unfolding weight heaviest shape tokensOf least greatest
+  pub sequence-stop : {f : List ℕ} {n : ℕ} {u : Brackets} {c : Size} → Sized c 0 noByte → Begun p at d → (at < length p → getD p at 0 ≢ 124 → getD p at 0 ≡ 41) → Sequenced p at d at c f n f n u u
+  unfolding weight heaviest shape tokensOf lengths
   sequence-stop {f} {n} {u} z b h =
       record {
         q = nothing;
@@ -186,7 +186,7 @@ module _ {p : List ℕ} {at d : ℕ} where
   pub sequence-part : {e k l n n₁ n₂ n₃ m : ℕ} {c v u : Size} {f g₁ g₂ g₃ g : List ℕ} {i j o : Brackets} (r : Size) → Atomic p at d e c f n g₁ n₁ i j → Repeated p e c k v g₁ n₁ n g₂ n₂ → Sequenced p k d l u g₂ n₂ g₃ n₃ j o
       → ((u .weight ≡ 0 → ⊥) → Added g₃ n₃ (1 ∷ []) g m) → (u .weight ≡ 0 → (g ≡ g₃) × (m ≡ n₃))
       → Sized r (min 65 (v .weight + u .weight)) (capped (inRow (meaning (v .lengths)) (meaning (u .lengths)))) → Sequenced p at d l r f n g m i o
-  unfolding weight heaviest shape least greatest
+  unfolding weight heaviest shape lengths
   sequence-part {e} {l = l} {n = n} {n₂ = n₂} {n₃ = n₃} {f = f} {g₂ = g₂} {g₃ = g₃} {i = i} {j = j} r a x q go stop z =
       let after : repeatText (x .x) (sequence (q .q) (drop l p)) ≡ drop e p = rw (q .text) (x .text) in
       let k : j .count ≡ i .count + bracketsAtom (a .x) = passed-count (a .passed) ∙ ap (λ n. i .count + n) (atom-count (a .x) (drop e p)) in
@@ -211,7 +211,7 @@ module _ {p : List ℕ} {at d : ℕ} where
   pub alternation-last : {e n n₁ m : ℕ} {c : Size} {f g₁ g : List ℕ} {i j : Brackets} (r : Size) → Sequenced p at d e c f n g₁ n₁ i j → (c .weight ≡ 0 → Added g₁ n₁ (0 ∷ []) g m)
       → ((c .weight ≡ 0 → ⊥) → (g ≡ g₁) × (m ≡ n₁)) → Sized r (max 1 (c .weight)) (meaning (c .lengths))
       → (e < length p → getD p e 0 ≢ 124) → Alternated p at d e r f n g m i j
-  unfolding weight heaviest shape least greatest
+  unfolding weight heaviest shape lengths
   alternation-last {i = i} r q go stop e h =
       record {
         t = last (q .q);
@@ -230,7 +230,7 @@ module _ {p : List ℕ} {at d : ℕ} where
       → ((c .weight ≡ 0 → ⊥) → (g₂ ≡ g₁) × (n₂ ≡ n₁)) → Sized w (max 1 (c .weight)) (meaning (c .lengths))
       → e < length p → getD p e 0 ≡ 124 → Alternated p (e + 1) d l v g₂ n₂ g₃ n₃ j k → Added g₃ n₃ (2 ∷ []) g m
       → Sized r (min 65 (w .weight + v .weight)) (capped (oneOf (meaning (w .lengths)) (meaning (v .lengths)))) → Alternated p at d l r f n g m i k
-  unfolding weight heaviest shape tokens least greatest
+  unfolding weight heaviest shape tokens lengths
   alternation-or {e} {l = l} {n₂ = n₂} {n₃ = n₃} {g₂ = g₂} {g₃ = g₃} {i = i} {j = j} w r q go stop x h y t o z =
       let after : 124 ∷ alternation (t .t) (drop l p) ≡ drop e p = ap (λ s. 124 ∷ s) (t .text) ∙ sym (byte-drop p e 124 h y) in
       let k : j .count ≡ i .count + bracketsWithin (q .q) = passed-count (q .passed) ∙ ap (λ n. i .count + n) (within-count (q .q) (drop e p)) in
@@ -253,8 +253,8 @@ module _ {p : List ℕ} {at d : ℕ} where
 -- Atoms.
 module _ {p : List ℕ} {at d : ℕ} (b : Begun p at d) (i : at < length p) {n m : ℕ} {f g : List ℕ} where
   -- A leaf, whose code is that of its place.
-  module _ (u : Added f n ((firstLeaf + at) ∷ []) g m) {c : Size} (q : Sized c 1 (1, limit 1)) (j : Brackets) where
-    leaf-here : (x : Atom) (e : ℕ) → map (tokenOf p) ((firstLeaf + at) ∷ []) ≡ tokens (shapeAtom x (j .count)) → openingsAtom x (drop e p) ≡ [] → WfAtom x → depthAtom x ≡ 0 → weightAtom x ≡ 1 → heaviestAtom x ≡ 1 → lengthsAtom x ≡ (1, limit 1)
+  module _ (u : Added f n ((firstLeaf + at) ∷ []) g m) {c : Size} (q : Sized c 1 oneByte) (j : Brackets) where
+    leaf-here : (x : Atom) (e : ℕ) → map (tokenOf p) ((firstLeaf + at) ∷ []) ≡ tokens (shapeAtom x (j .count)) → openingsAtom x (drop e p) ≡ [] → WfAtom x → depthAtom x ≡ 0 → weightAtom x ≡ 1 → heaviestAtom x ≡ 1 → lengthsAtom x ≡ oneByte
         → atom x (drop e p) ≡ drop at p → at < e → e ≤ length p → Atomic p at d e c f n g m j j
     leaf-here x e v o w k y z s t l r =
         record {
@@ -270,23 +270,23 @@ module _ {p : List ℕ} {at d : ℕ} (b : Begun p at d) (i : at < length p) {n m
         }
 
     pub plain-here : false ≡ isSpecial (getD p at 0) → Atomic p at d (at + 1) c f n g m j j
-    unfolding weight heaviest least greatest
+    unfolding weight heaviest lengths
     plain-here e =
         leaf-here (byte (plain (getD p at 0))) (at + 1) (plain-code p at (j .count) (drop (at + 1) p) (getD p at 0) (at-drop p at i) (ordinary-of (getD p at 0) e)) refl (ordinary-of (getD p at 0) e) refl refl refl refl (sym (at-drop p at i)) (omega arith) (omega arith)
 
     pub dot-here : getD p at 0 ≡ 46 → Atomic p at d (at + 1) c f n g m j j
-    unfolding weight heaviest least greatest
+    unfolding weight heaviest lengths
     dot-here e = leaf-here dot (at + 1) (dot-code p at (j .count) (drop (at + 1) p) (byte-drop p at 46 i e)) refl tt refl refl refl refl (sym (byte-drop p at 46 i e)) (omega arith) (omega arith)
 
     pub escaped-here : getD p at 0 ≡ 92 → at + 1 ≢ length p → true ≡ isSpecial (getD p (at + 1) 0) → Atomic p at d (at + 2) c f n g m j j
-    unfolding weight heaviest least greatest
+    unfolding weight heaviest lengths
     escaped-here e k s =
         let h : at + 1 < length p = omega arith in
         let t : drop at p ≡ 92 ∷ getD p (at + 1) 0 ∷ drop (at + 2) p = byte-drop p at 92 i e ∙ ap (λ l. 92 ∷ l) (next-here b i h) in
         leaf-here (byte (escaped (getD p (at + 1) 0))) (at + 2) (escaped-code p at (j .count) (drop (at + 2) p) (getD p (at + 1) 0) t) refl (sym s) refl refl refl refl (sym t) (omega arith) (omega arith)
 
     pub class-here : {e : ℕ} (x : Atom) → getD p at 0 ≡ 91 → readClass (drop (at + 1) p) ≡ found x (drop e p) → Onward p (at + 1) e → Atomic p at d e c f n g m j j
-    unfolding weight heaviest least greatest
+    unfolding weight heaviest lengths
     class-here {e} a h r o =
         let (c, x, l, s, w, v, t) = subst (Sound (ClassIs (91 ∷ drop (at + 1) p))) r (class-sound (drop (at + 1) p)) in
         leaf-here (class c x l) e (class-code p at (j .count) (drop (at + 1) p) c x l (drop e p) (byte-drop p at 91 i h) (r ∙ ap (λ y. found y (drop e p)) s)) refl (w, v) refl refl refl refl (t ∙ sym (byte-drop p at 91 i h)) (omega (arith, o .forward)) (o .inside)
@@ -294,7 +294,7 @@ module _ {p : List ℕ} {at d : ℕ} (b : Begun p at d) (i : at < length p) {n m
   -- A group, whose bracket is a field if it is one of the first eight.
   pub group-here : {e k : ℕ} {c : Size} {h : List ℕ} {u w v : Brackets} → getD p at 0 ≡ 40 → w ≡ oneMore u at → Alternated p (at + 1) (d + 1) e c f n h k w v → e ≢ length p → AddedIf (u .count < maxFields) h k (firstField + u .count) g m
       → Atomic p at d (e + 1) c f n g m u v
-  unfolding weight heaviest shape least greatest
+  unfolding weight heaviest shape lengths
   group-here {e} {k} {c} {h} {u} {w} {v} x is t′ o z =
       let l : e < length p = omega (arith, t .inside) in
       let y = byte-drop p e 41 l (t .end l) in

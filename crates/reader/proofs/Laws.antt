@@ -18,8 +18,8 @@ use Rattle.words.specs.Sets.{hasBit}
 use Rattle.arrays.specs.Decoded.{decode}
 use Rattle.arrays.specs.Finished.{HoldsPattern}
 use Rattle.arrays.proofs.Laws.{masks-hold}
-use Rattle.lengths.specs.Lengths.{least, greatest}
-use Rattle.lengths.specs.Code.{longestOf, lengths}
+use Rattle.lengths.specs.Lengths.{lengths}
+use Rattle.lengths.specs.Code.{longestOf}
 use Rattle.lengths.specs.Code as Lengths
 use Rattle.reader.specs.declared.Answer.the-variants.{Accepted, Refused}
 use Rattle.reader.specs.declared.Reading.{Reading}
@@ -47,8 +47,8 @@ module _ {p : List ℕ} {r : Reading} (h : ReadRight p r) where
   pub accepted-reads : r .answer ≡ Accepted → (t : Alternation) × Reads p t × (decode (r .pattern) ≡ writeOut t)
   accepted-reads e = let (t, w, b, l, q) = accepted-tree e in (t, w, q)
 
-  pub accepted-lengths : r .answer ≡ Accepted → (t : Alternation) × Reads p t × (r .lengths .least ≡ least t) × (longestOf (r .lengths .greatest) ≡ greatest t)
-  accepted-lengths e = let (t, w, b, l, q) = accepted-tree e in (t, w, ap (λ x. x .0) l, ap (λ x. x .1) l)
+  pub accepted-lengths : r .answer ≡ Accepted → (t : Alternation) × Reads p t × (r .lengths .least ≡ lengths t .least) × (longestOf (r .lengths .greatest) ≡ lengths t .greatest)
+  accepted-lengths e = let (t, w, b, l, q) = accepted-tree e in (t, w, ap (λ x. x .least) l, ap (λ x. x .greatest) l)
 
   -- Its leaves are numbered from 0, and at most 64.
   pub accepted-leaves : r .answer ≡ Accepted → Numbered 0 (decode (r .pattern)) × (count (decode (r .pattern)) ≤ 64)

@@ -3,13 +3,12 @@
 use mathlib.Core.Path.{_≡_, refl, sym, ap, _∙_}
 use Prim.Native.Nat.{ℕ, suc, _+_, _*_, _≤_, _<_, max, min}
 use native.Mathlib.Omega.{arith}
-use native.Mathlib.Nat.{one-mul, zero-mul}
+use native.Mathlib.Nat.{one-mul}
 use Rattle.grammar.specs.Grammar.{Repeat, once, many, more, maybe, exactly, atLeast, between, Digits, digitsValue}
 use Rattle.grammar.specs.Limits.{times, repeated}
-use Rattle.lengths.specs.Lengths.{limit}
-use Rattle.lengths.specs.Code.{Extent, meaning, inRow, oneOf, upTo, orMore, underRepeat, capped}
-use Rattle.lengths.proofs.Sums.{plus-zero}
-use Rattle.lengths.proofs.Capped.{both, row-counted, one-counted, upTo-counted, orMore-counted}
+use Rattle.lengths.specs.Lengths.{Extent, inRow, oneOf, upTo, orMore, underRepeat}
+use Rattle.lengths.specs.Code.{meaning, capped}
+use Rattle.lengths.proofs.Capped.{row-counted, one-counted, upTo-counted, orMore-counted}
 use Rattle.reader.specs.declared.Size.{Size}
 use Rattle.reader.specs.Steps.{Weighs, light, loadOf, Sized, SizeOf}
 use Rattle.reader.proofs.Weights.{weighs-65, weighs-plus, weighs-again, weighs-times, one-load}
@@ -49,13 +48,13 @@ module _ {v c : Size} where
       record { load = weighs-times (suc m) (c .weight) (e .weighs ∙ ap (λ n. loadOf n (v .weight)) n) k (s .load); lengths = orMore-counted y (s .lengths) m (e .lasts) }
 
   pub many-sizes : Sized c (loadOf 1 (v .weight)) (capped (orMore 0 (meaning (v .lengths)))) → Sizes v c many
-  many-sizes e w h y k s = rw (one-mul w, zero-mul (y .0)) at (orMore-size 0 e w h y k s)
+  many-sizes e w h y k s = rw (one-mul w) at (orMore-size 0 e w h y k s)
 
   pub more-sizes : Sized c (loadOf 2 (v .weight)) (capped (orMore 1 (meaning (v .lengths)))) → Sizes v c more
-  more-sizes e w h y k s = rw (one-mul (y .0)) at (orMore-size 1 e w h y k s)
+  more-sizes e w h y k s = orMore-size 1 e w h y k s
 
   pub maybe-sizes : Sized c (loadOf 1 (v .weight)) (capped (upTo 0 1 (meaning (v .lengths)))) → Sizes v c maybe
-  maybe-sizes e w h y k s = rw (one-mul w, zero-mul (y .0), plus-zero (y .1)) at (upTo-size 0 1 e w h y k s)
+  maybe-sizes e w h y k s = rw (one-mul w) at (upTo-size 0 1 e w h y k s)
 
   pub exactly-sizes : (d : Digits) (t : ℕ) → digitsValue d ≡ t → Sized c (loadOf t (v .weight)) (capped (upTo t t (meaning (v .lengths)))) → Sizes v c (exactly d)
   exactly-sizes d t g e w h y k s = rw g (upTo-size t t e w h y k s)

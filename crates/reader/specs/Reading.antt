@@ -13,8 +13,7 @@ use Rattle.grammar.specs.Refusals as Due
 use Rattle.arrays.specs.declared.Pattern.{Pattern}
 use Rattle.arrays.specs.Decoded.{decode, blank}
 use Rattle.arrays.specs.Finished.{HoldsPattern}
-use Rattle.lengths.specs.Lengths.{limit}
-use Rattle.lengths.specs.Code.{Extent, lengths}
+use Rattle.lengths.specs.Lengths.{Extent, noByte, lengths}
 use Rattle.lengths.specs.Code as Lengths
 use Rattle.reader.specs.declared.Answer.{Answer}
 use Rattle.reader.specs.declared.Answer.the-variants.{Accepted, Refused}
@@ -53,7 +52,7 @@ bracketsDue (Due.refused n q) = noBrackets
 -- the empty pattern, as in the arrays.
 abbrev pub lengthsDue : Due.Answer → Extent
 lengthsDue (Due.accepted t) = lengths t
-lengthsDue (Due.refused n q) = (0, limit 0)
+lengthsDue (Due.refused n q) = noByte
 
 -- The reader's answer is the one that is right, and the arrays are the written-out pattern's, leaf sets included.
 pub record ReadRight (p : List ℕ) (r : Reading) : Type 0 where

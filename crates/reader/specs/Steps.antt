@@ -17,8 +17,8 @@ use Rattle.grammar.specs.Refusals.{Fault}
 use Rattle.grammar.specs.Code.Tokens.{maxParts, Token, tokens}
 use Rattle.grammar.specs.Code.Codes.{firstHolds, tokenOf}
 use Rattle.tokens.specs.Held.{HoldsCodes, Added}
-use Rattle.lengths.specs.Lengths.{limit}
-use Rattle.lengths.specs.Code.{Extent, meaning, lengths, lengthsWithin, lengthsAtom, underRepeat, capped}
+use Rattle.lengths.specs.Lengths.{Extent, noByte, underRepeat, lengths, lengthsWithin, lengthsAtom}
+use Rattle.lengths.specs.Code.{meaning, capped}
 use Rattle.reader.specs.declared.Answer.{Answer}
 use Rattle.reader.specs.declared.Answer.the-variants.{Accepted}
 use Rattle.reader.specs.declared.Answer.the-variants as Answer
@@ -218,5 +218,5 @@ answerBy n (Read e c) = cond (ltb e n) (Answer.Refused 2 e) (cond (ltb maxWeight
 
 -- How long the matches of what was found can be, as far as they are counted.
 abbrev pub lengthsBy : Part → Extent
-lengthsBy (Refused k q) = (0, limit 0)
+lengthsBy (Refused k q) = noByte
 lengthsBy (Read e c) = meaning (c .lengths)

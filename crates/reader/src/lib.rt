@@ -11,8 +11,8 @@ ghost use Rattle.grammar.specs.Code.Codes.{emptyKind, sequenceKind, firstField,
 ghost use Rattle.reader.specs.Steps.{isSpecial, aboveLimit, loadOf, Sized, signEnd, oneMore, Begun, Ready, AtomAt, AlternationRead, SequenceRead, AtomRead, LeafRead, RepeatRead, AddedIf, answerBy, lengthsBy};
 ghost use Rattle.reader.specs.Reading.{noBrackets, ReadRight};
 ghost use Rattle.tokens.specs.Held.{Added};
-ghost use Rattle.lengths.specs.Lengths.{limit};
-ghost use Rattle.lengths.specs.Code.{meaning, inRow, oneOf, upTo, orMore, capped};
+ghost use Rattle.lengths.specs.Lengths.{noByte, oneByte, inRow, oneOf, upTo, orMore};
+ghost use Rattle.lengths.specs.Code.{meaning, capped};
 use arrays::Codes;
 use arrays::Pattern;
 use lengths::Lengths;
@@ -138,7 +138,7 @@ fn plus(a: usize, b: usize) -> usize
 
 // The empty sequence: it weighs nothing until it stands as an alternative.
 fn no_part() -> Size
-    ensures { λ r. ⌜ Sized r 0 (0, limit 0) ⌝ }
+    ensures { λ r. ⌜ Sized r 0 noByte ⌝ }
 {
     Size {
         weight: 0,
@@ -147,7 +147,7 @@ fn no_part() -> Size
 }
 
 fn leaf_size() -> Size
-    ensures { λ r. ⌜ Sized r 1 (1, limit 1) ⌝ }
+    ensures { λ r. ⌜ Sized r 1 oneByte ⌝ }
 {
     Size {
         weight: 1,

@@ -1,6 +1,6 @@
 -- Demand 2 in its words, about the reply of `cut_line`, what demand 1 says of its refusal, what request 5 leaves as it was, and what request 6 says of every span.
 -- Assumes nothing.
-use mathlib.Core.Path.{_≡_, refl, sym, ap, _∙_, subst₂}
+use mathlib.Core.Path.{_≡_, refl, sym, ap, _∙_}
 use mathlib.Core.Logic.{_↔_}
 use Prim.Native.Nat.{ℕ}
 use mathlib.Core.List.{List, []}
@@ -20,14 +20,14 @@ use Rattle.grammar.specs.Code.Reader.{read}
 use Rattle.grammar.proofs.Right.{refuses, not-both}
 use Rattle.grammar.proofs.Eager.{eagerly-posix, unsigned-eager}
 use Rattle.grammar.proofs.Unsigned.{eagerly-reads}
-use Rattle.lengths.specs.Lengths.{least, greatest, LengthBetween}
-use Rattle.lengths.specs.Code.{longestOf}
+use Rattle.lengths.specs.Lengths.{LengthBetween}
+use Rattle.lengths.specs.Code as Lengths
 use Rattle.lengths.proofs.Accepted.{greedy-length, posix-length}
 use Rattle.reader.specs.declared.Answer.{Answer}
 use Rattle.reader.specs.declared.Answer.the-variants.{Accepted, Refused}
 use Rattle.reader.specs.declared.Reading.{Reading}
 use Rattle.reader.specs.Reading.{ReadRight}
-use Rattle.reader.proofs.Laws.{accepted-lengths}
+use Rattle.reader.proofs.Laws.{accepted-tree}
 use Rattle.matchers.specs.declared.Spans.{Spans}
 use Rattle.matchers.specs.declared.Spans.the-variants.{Nowhere, Located}
 use Rattle.matchers.specs.Cuts.{greedyOf, posixOf}
@@ -93,11 +93,10 @@ module _ {p w : List ℕ} {r : Reply} (h : Replied p w r) where
 -- THE LENGTHS THAT THE READER HANDS BACK BOUND BOTH SPANS THAT ARE HANDED OVER, on every line.
 module _ {p w : List ℕ} {r : Reply} (h : Replied p w r) {x : Reading} (read : ReadRight p x) (accepted : x .answer ≡ Accepted) where
   abbrev Within : Span → Type 0
-  Within s = LengthBetween (x .lengths .least) (longestOf (x .lengths .greatest)) s
+  Within s = LengthBetween (Lengths.meaning (x .lengths)) s
 
   pub cut-between : Within (greedyOf (r .spans)) × Within (posixOf (r .spans))
   cut-between =
-      let (t, reads, l, g) = accepted-lengths read accepted in
-      let own : (s : Span) → LengthBetween (least t) (greatest t) s → Within s = λ s. subst₂ (λ n m. LengthBetween n m s) (sym l) (sym g) in
+      let (t, reads, brackets, long, is) = accepted-tree read accepted in
       let both = spans-of h t reads in
-      (own (greedyOf (r .spans)) (rw (both .greedily) (greedy-length p t reads w)), own (posixOf (r .spans)) (rw (both .longest) (posix-length p t reads w)))
+      rw (both .greedily, both .longest, long) (greedy-length p t reads w, posix-length p t reads w)

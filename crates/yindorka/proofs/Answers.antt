@@ -7,7 +7,7 @@ use mathlib.Core.List.{List, [], _∷_}
 use borrow.Author.Tests.{eq-eqb, ne-eqb}
 use Rattle.theory.specs.Spans.{nowhere, span}
 use Rattle.grammar.specs.Refusals as Due
-use Rattle.lengths.specs.Lengths.{greatest}
+use Rattle.lengths.specs.Lengths.{lengths}
 use Rattle.lengths.specs.Code.{longestOf, isLimited, bytesOf}
 use Rattle.reader.specs.declared.Answer.the-variants.{Accepted, Refused}
 use Rattle.reader.specs.declared.Reading.{Reading}
@@ -32,8 +32,8 @@ module _ {p : List ℕ} {r : Reading} (read : ReadRight p r) {x : Refusal} (is :
   measures-accepted {limited} {bytes} e q f g =
       let (t, reads, l, most) = accepted-lengths read e in
       let a : x ≡ record { number = 0; place = 0 } = is ∙ ap refusalOf e in
-      let flag : limited ≡ cond (isLimited (greatest t)) 1 0 = f ∙ ap (λ b. cond b 1 0) (q ∙ ap isLimited most) in
-      let size : bytes ≡ bytesOf (greatest t) = g ∙ ap bytesOf most in
+      let flag : limited ≡ cond (isLimited (lengths t .greatest)) 1 0 = f ∙ ap (λ b. cond b 1 0) (q ∙ ap isLimited most) in
+      let size : bytes ≡ bytesOf (lengths t .greatest) = g ∙ ap bytesOf most in
       record { answer = Due.accepted t; right = reads; is = λ i. record { number = a i .number; place = a i .place; least = l i; limited = flag i; greatest = size i } }
 
   -- and of a refused one none.

@@ -17,7 +17,7 @@ use Rattle.theory.specs.Pattern.{Re}
 use Rattle.theory.specs.Spans.{nowhere, span, greedy, posix}
 use Rattle.grammar.specs.Refusals.{Right}
 use Rattle.grammar.specs.Refusals as Due
-use Rattle.lengths.specs.Lengths.{least, greatest}
+use Rattle.lengths.specs.Lengths.{lengths}
 use Rattle.lengths.specs.Code.{isLimited, bytesOf}
 use Rattle.matchers.specs.Tables.{Tables, Ready}
 use Rattle.reader.specs.declared.Answer.{Answer}
@@ -84,7 +84,7 @@ pub record CutsFields (t : Lent) (w old : List ℕ) (x : Spanned) (new : List �
 
 -- Number 0: the least length of a match, and if `limited` is 1 the greatest (request 6). Else the refusal, and no lengths.
 abbrev pub lengthsOf : Due.Answer → Lengths
-lengthsOf (Due.accepted t) = record { number = 0; place = 0; least = least t; limited = cond (isLimited (greatest t)) 1 0; greatest = bytesOf (greatest t) }
+lengthsOf (Due.accepted t) = record { number = 0; place = 0; least = lengths t .least; limited = cond (isLimited (lengths t .greatest)) 1 0; greatest = bytesOf (lengths t .greatest) }
 lengthsOf (Due.refused n q) = record { number = n; place = q; least = 0; limited = 0; greatest = 0 }
 
 pub record Measures (p : List ℕ) (r : Lengths) : Type 0 where
