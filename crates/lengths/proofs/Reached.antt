@@ -86,7 +86,7 @@ turns m (suc k) =
       size = omega (arith, length-append (m .line) (c .line));
     }
 
--- SOME LINE HAS A MATCH OF THE LEAST LENGTH,
+-- Some line has a match of the least length,
 pub least-reached : (r : Re) → Filled r → Matched r (λ n. n ≡ extent r .least)
 unfolding extent
 least-reached empty f = no-byte refl

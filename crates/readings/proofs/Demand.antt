@@ -90,11 +90,11 @@ module _ {p w : List ℕ} {r : Reply} (h : Replied p w r) where
     pub cut-unsigned : {q : Reply} → Replied (alternation (eagerly a) []) w q → posixOf (r .spans) ≡ posixOf (q .spans)
     cut-unsigned k = spans-of h a reads .longest ∙ sym (eagerly-posix a w) ∙ sym (spans-of k (eagerly a) (eagerly-reads p a reads) .longest)
 
--- THE LENGTHS THAT THE READER HANDS BACK BOUND BOTH SPANS THAT ARE HANDED OVER, on every line.
 module _ {p w : List ℕ} {r : Reply} (h : Replied p w r) {x : Reading} (read : ReadRight p x) (accepted : x .answer ≡ Accepted) where
   abbrev Within : Span → Type 0
   Within s = LengthBetween (Lengths.meaning (x .lengths)) s
 
+  -- THE LENGTHS THAT THE READER HANDS BACK bound both spans that are handed over, of every line.
   pub cut-between : Within (greedyOf (r .spans)) × Within (posixOf (r .spans))
   cut-between =
       let (t, reads, brackets, long, is) = accepted-tree read accepted in
