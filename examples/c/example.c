@@ -1,4 +1,5 @@
-/* Reads a pattern from the command line, says whether the two readings can ever cut a line differently, and cuts the other words both ways.
+/* Reads a pattern from the command line, says whether the two readings can ever cut a line differently and how long a span can be, and cuts the
+ * other words both ways.
  * Usage: example PATTERN LINE..   Built and run by examples/c/run. */
 #include <stdio.h>
 #include <string.h>
@@ -33,6 +34,17 @@ static void show_verdict(const uint8_t *pattern, size_t length, yindorka_outcome
     }
 }
 
+/* How long a span of an accepted pattern can be. */
+static void show_lengths(const uint8_t *pattern, size_t length)
+{
+    yindorka_span_lengths x = yindorka_lengths(pattern, length);
+    if (x.limited) {
+        printf("a span has %zu to %zu bytes\n", x.least, x.greatest);
+    } else {
+        printf("a span has %zu bytes or more\n", x.least);
+    }
+}
+
 static void show_cut(const char *line)
 {
     size_t spans[3];
@@ -59,6 +71,7 @@ int main(int n, char **words)
     if (yindorka_read(pattern, length, &tables).number) {
         return 1;
     }
+    show_lengths(pattern, length);
     for (int i = 2; i < n; i++) {
         show_cut(words[i]);
     }

@@ -1,4 +1,4 @@
-// Reads a pattern from the command line, says whether the two readings can ever cut a line differently, and cuts the other words both ways.
+// Reads a pattern from the command line, says whether the two readings can ever cut a line differently and how long a span can be, and cuts the other words both ways.
 // Usage: example PATTERN LINE..   Built and run by examples/rust/run. Pattern and lines are bytes, whether they are UTF-8 or not.
 use std::env;
 use std::io::{self, Write};
@@ -12,6 +12,15 @@ const VERSION: u32 = 10600;
 struct Refusal {
     number: usize,
     place: usize,
+}
+
+#[repr(C)]
+struct SpanLengths {
+    number: usize,
+    place: usize,
+    least: usize,
+    limited: usize,
+    greatest: usize,
 }
 
 #[repr(C)]
@@ -46,6 +55,7 @@ extern "C" {
         hows: *const u8,
         spans: *mut usize,
     ) -> usize;
+    fn yindorka_lengths(pattern: *const u8, length: usize) -> SpanLengths;
     fn yindorka_readable(pattern: *const u8, length: usize, line: *mut u8, line_length: usize) -> Refusal;
     fn yindorka_check(
         pattern: *const u8,
@@ -180,6 +190,16 @@ fn show_verdict(out: &mut impl Write, verdict: Verdict) -> io::Result<()> {
     }
 }
 
+// How long a span of an accepted pattern can be.
+fn show_lengths(out: &mut impl Write, text: &[u8]) -> io::Result<()> {
+    // Safe as above.
+    match unsafe { yindorka_lengths(text.as_ptr(), text.len()) } {
+        SpanLengths { number: 0, least, limited: 1, greatest, .. } => writeln!(out, "a span has {least} to {greatest} bytes"),
+        SpanLengths { number: 0, least, .. } => writeln!(out, "a span has {least} bytes or more"),
+        SpanLengths { number, place, .. } => writeln!(out, "refused with {number} at {place}"),
+    }
+}
+
 // A cut may go through a character, so what is taken is written as bytes.
 fn show_cut(out: &mut impl Write, pattern: &Pattern, line: &[u8]) -> io::Result<()> {
     let text = match pattern.cut(line) {
@@ -196,6 +216,7 @@ fn show_all(words: &[Vec<u8>]) -> io::Result<bool> {
     let Ok(pattern) = Pattern::read(&words[0]) else {
         return Ok(false);
     };
+    show_lengths(&mut out, &words[0])?;
     for line in &words[1..] {
         show_cut(&mut out, &pattern, line)?;
     }
