@@ -51,6 +51,11 @@ pub record Detailed (x : List ℕ × List ℕ) (p w : List ℕ) (y : List ℕ ×
   pub reported : Reported x p rest y
   pub text : w ≡ head ++ rest
 
+-- With the lengths if they are asked for.
+abbrev pub ReportedBy : Bool → List ℕ × List ℕ → List ℕ → List ℕ → List ℕ × List ℕ → Type 0
+ReportedBy true x p w y = Detailed x p w y
+ReportedBy false x p w y = Reported x p w y
+
 -- The text w has the number of each byte's group (request 3), by the grammar's answer, or the refusal.
 abbrev pub GroupsText : Due.Answer → List ℕ → Type 0
 GroupsText (Due.accepted t) w = GroupsLine (groupsOf (writeOut t) .group) w
@@ -60,6 +65,13 @@ pub record Listed (p w : List ℕ) : Type 0 where
   pub answer : Due.Answer
   pub right : Right p answer
   pub line : GroupsText answer w
+
+abbrev pub asksDetails : Asked → Bool
+asksDetails Asked.Verdict = false
+asksDetails Spans = false
+asksDetails Looking = false
+asksDetails Details = true
+asksDetails Groups = false
 
 -- The text w answers the pattern p. Groups leave table and witness buffer as they are.
 abbrev pub Answer : Asked → List ℕ × List ℕ → List ℕ → List ℕ → List ℕ × List ℕ → Type 0

@@ -1,13 +1,17 @@
--- What is printed for a witness, whatever it is.
+-- What is printed for a witness, whatever it is, and what stands before a report.
 -- Assumes nothing.
 use mathlib.Core.Path.{_≡_}
+use mathlib.Core.Bool.{Bool, true, false}
 use Prim.Native.Nat.{ℕ}
 use mathlib.Core.List.{List}
 use Rattle.theory.specs.Spans.{greedy, posix}
 use Rattle.grammar.specs.Grammar.{Alternation}
 use Rattle.grammar.specs.Limits.{Reads}
 use Rattle.grammar.specs.WriteOut.{writeOut}
-use Rattle.printing.specs.Text.{room, Printed, UnlikeLine}
+use Rattle.grammar.specs.Refusals.{Fault}
+use Rattle.lengths.specs.Lengths.{lengths}
+use Rattle.lengths.specs.Code.{limitOf}
+use Rattle.printing.specs.Text.{room, Printed, UnlikeLine, LengthsText, Ahead}
 use Rattle.reader.specs.declared.Answer.{Answer}
 use Rattle.screen.specs.Shows.{Rewrites}
 use Rattle.checker.specs.declared.Verdict.{Verdict}
@@ -26,3 +30,9 @@ pub data Shown (p : List ℕ) (n : ℕ) (w text : List ℕ) : Type 0 where
 -- For the verdict on the pattern.
 abbrev pub Explained : List ℕ → Verdict → List ℕ → List ℕ → ℕ → List ℕ → ℕ → Type 0
 Explained p x v old n new m = (t u t′ : List ℕ) → Checks p t u x t′ v → Printed (room (room 136 v) v) (SpansLineOf p x v) old n new m
+
+-- What stands before a report: how long a match can be, if that is asked for and the pattern is not refused; else nothing, and the buffer is kept.
+pub data Begun (asked : Bool) (p : List ℕ) (old : List ℕ) (n : ℕ) (new : List ℕ) (m : ℕ) : Type 0 where
+  long : {t : Alternation} → asked ≡ true → Reads p t → Printed 57 (Ahead (LengthsText (lengths t .least) (limitOf (lengths t .greatest)))) old n new m → Begun asked p old n new m
+  unread : {k q : ℕ} → asked ≡ true → Fault p k q → new ≡ old → m ≡ n → Begun asked p old n new m
+  unasked : asked ≡ false → new ≡ old → m ≡ n → Begun asked p old n new m

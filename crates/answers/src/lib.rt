@@ -1,13 +1,14 @@
 // What the programs print for a pattern: the checker's verdict on it, also with both spans of the witness and its readable form, how much looking it took and how long a
 // match can be; or the pattern's byte groups; and the answers to the patterns of the input.
+ghost use mathlib.Core.Path.{_≡_};
 ghost use Prim.Native.Nat.{_≤_};
 ghost use lib.ListN.{length, take};
 ghost use Rattle.lines.specs.Answers.{Served};
 ghost use Rattle.lines.specs.Exchange.{Finished};
 ghost use Rattle.printing.specs.Text.{room, Printed};
 ghost use Rattle.answers.specs.Line.{LineOf};
-ghost use Rattle.answers.specs.Answer.{Judged, Reported, Detailed, Listed, Answer, Answered};
-ghost use Rattle.answers.specs.Cutting.{MadeReadable, Shown, Explained};
+ghost use Rattle.answers.specs.Answer.{Judged, ReportedBy, asksDetails, Listed, Answer, Answered};
+ghost use Rattle.answers.specs.Cutting.{MadeReadable, Shown, Explained, Begun};
 use checker::Verdict;
 use lines::KEPT;
 use lines::SIZE;
@@ -119,46 +120,44 @@ fn judge(
     verdict(out, n, x, witness)
 }
 
-// Appends how much looking the check of a pattern took, and the verdict with the spans of the witness and its readable form.
+// Appends how long a match of a pattern can be, if that is asked for and the pattern is not refused.
+fn ahead(out: &mut [u8; SIZE], n: usize, pattern: &[u8], asked: bool) -> usize
+    ensures { λ r. ⌜ Begun asked (now (pattern .entry)) (now (out .entry)) n (now (out .exit)) r ⌝ }
+{
+    if asked {
+        let reading = reader::read(pattern);
+        let answer = reading.answer;
+        let own = reading.lengths;
+        let greatest = own.greatest;
+        let reader::Answer::Accepted = answer else {
+            return n;
+        };
+        let limited = lengths::is_limited(greatest);
+        let most = lengths::bytes_of(greatest);
+        return printing::lengths(out, n, own.least, limited, most);
+    }
+    n
+}
+
+// Appends how much looking the check of a pattern took, and the verdict with the spans of the witness and its readable form; `details` asks for how long a match can be,
+// before that.
 fn report(
     out: &mut [u8; SIZE],
     n: usize,
     pattern: &[u8],
     table: &mut [u8; TABLE],
     witness: &mut [u8; WITNESS],
+    details: bool,
 ) -> usize
-    ensures { λ r. ⌜ Printed 4292 (λ w. Reported (now (table .entry), now (witness .entry)) (now (pattern .entry)) w (now (table .exit), now (witness .exit)))
+    ensures { λ r. ⌜ Printed 4349 (λ w. ReportedBy details (now (table .entry), now (witness .entry)) (now (pattern .entry)) w (now (table .exit), now (witness .exit)))
         (now (out .entry)) n (now (out .exit)) r ⌝ }
 {
+    let start = ahead(out, n, pattern, details);
     let x = checker::check_looking(pattern, table, witness);
     let looking = x.looking;
     let verdict = x.verdict;
-    let head = printing::looking(out, n, looking.looks, looking.comparisons);
+    let head = printing::looking(out, start, looking.looks, looking.comparisons);
     explained(out, head, pattern, verdict, witness)
-}
-
-// Appends how long a match of a pattern can be, unless it is refused, and then the report.
-fn details(
-    out: &mut [u8; SIZE],
-    n: usize,
-    pattern: &[u8],
-    table: &mut [u8; TABLE],
-    witness: &mut [u8; WITNESS],
-) -> usize
-    ensures { λ r. ⌜ Printed 4349 (λ w. Detailed (now (table .entry), now (witness .entry)) (now (pattern .entry)) w (now (table .exit), now (witness .exit)))
-        (now (out .entry)) n (now (out .exit)) r ⌝ }
-{
-    let reading = reader::read(pattern);
-    let answer = reading.answer;
-    let own = reading.lengths;
-    let greatest = own.greatest;
-    let reader::Answer::Accepted = answer else {
-        return report(out, n, pattern, table, witness);
-    };
-    let limited = lengths::is_limited(greatest);
-    let most = lengths::bytes_of(greatest);
-    let head = printing::lengths(out, n, own.least, limited, most);
-    report(out, head, pattern, table, witness)
 }
 
 // Appends the number of each byte's group, or the pattern's refusal.
@@ -175,6 +174,15 @@ fn list_groups(out: &mut [u8; SIZE], n: usize, pattern: &[u8]) -> usize
     printing::refused(out, n, number, place)
 }
 
+fn asks_details(asked: Asked) -> bool
+    ensures { λ r. ⌜ r ≡ asksDetails asked ⌝ }
+{
+    match asked {
+        Asked::Details => true,
+        _ => false,
+    }
+}
+
 // Appends what is asked for a pattern. Groups need neither table nor witness buffer.
 pub fn answer(
     out: &mut [u8; SIZE],
@@ -187,12 +195,13 @@ pub fn answer(
     ensures answered { λ r. ⌜ Answered asked (now (table .entry), now (witness .entry)) (now (pattern .entry)) (now (table .exit), now (witness .exit))
         (now (out .entry)) n (now (out .exit)) r ⌝ }
 {
+    let details = asks_details(asked);
     match asked {
         Asked::Verdict => judge(out, n, pattern, table, witness, false),
         Asked::Spans => judge(out, n, pattern, table, witness, true),
-        Asked::Looking => report(out, n, pattern, table, witness),
-        Asked::Details => details(out, n, pattern, table, witness),
         Asked::Groups => list_groups(out, n, pattern),
+        // one call for both, so that a program that asks for neither is built without it
+        _ => report(out, n, pattern, table, witness, details),
     }
 }
 
