@@ -12,7 +12,7 @@
  * The stack is not proved. It was measured over some 25,000 patterns, the deepest and the heaviest among them, for 1.0.0, and for each version since over those that
  * took the most; tests/embedding holds it:
  * yindorka_check takes at most 180 KB, yindorka_prepare 180 KB, yindorka_cut 2 KB, yindorka_prepare_fields 180 KB, yindorka_cut_fields 20 KB, yindorka_groups 180 KB,
- * yindorka_readable 180 KB, yindorka_check_looking 180 KB, yindorka_lengths 180 KB. The size of a line or a table changes nothing in this.
+ * yindorka_readable 180 KB, yindorka_check_looking 180 KB, yindorka_lengths 180 KB, yindorka_record_bytes 180 KB. The size of a line or a table changes nothing in this.
  */
 #ifndef YINDORKA_H
 #define YINDORKA_H
@@ -21,8 +21,8 @@
 #include <stdint.h>
 
 /* The version of this header: 10,000 times the first number, 100 times the second, and the third. */
-#define YINDORKA_VERSION "1.6.0"
-#define YINDORKA_VERSION_NUMBER 10600
+#define YINDORKA_VERSION "1.7.0"
+#define YINDORKA_VERSION_NUMBER 10700
 
 #ifdef __cplusplus
 extern "C" {
@@ -112,6 +112,14 @@ typedef struct {
     size_t known;
 } yindorka_spanned;
 
+/* number 0: accepted, and a record of the pattern has so many bytes: 13, and six bits for each of its leaves written out, rounded up: 13 to 61. Else the pattern is refused
+ * with that number (1 to 8) at that place, and bytes is 0. */
+typedef struct {
+    size_t number;
+    size_t place;
+    size_t bytes;
+} yindorka_record_size;
+
 /* kind 0, alike: no line of any length is cut differently; first is the number of records.
  * kind 1, unlike: first is the number of records, second the length of the first line that is cut differently.
  * kind 2, refused: first is the number (1 to 8, 10 or 11), second the place. */
@@ -156,10 +164,14 @@ yindorka_groups_refusal yindorka_groups(const uint8_t *pattern, size_t pattern_l
  * places. A refused pattern leaves the line as it is. */
 yindorka_refusal yindorka_readable(const uint8_t *pattern, size_t pattern_length, uint8_t *line, size_t line_length);
 
+/* How many bytes each record of the pattern takes in the table of yindorka_check: a table for n records has n times as many. */
+yindorka_record_size yindorka_record_bytes(const uint8_t *pattern, size_t pattern_length);
+
 /* Decides whether a greedy and a POSIX reading of the pattern can ever cut a line differently.
- * Writes: the table, whose slots are its length divided by 64, at most 65,535: the records found, from its start on, the rest kept; the witness buffer, only for
- * kind 1: the first line that is cut differently, at its start, the rest kept. A refusal 1 to 8 keeps both; 10: more records are needed than there are slots, all
- * slots hold records; 11: all records are written, but the witness is longer than its buffer. Buffers of any lengths, 0 included. */
+ * Writes: the table, whose slots are its length divided by the bytes of a record (yindorka_record_bytes), at most 65,535: the records found, from its start on, the rest
+ * kept; the witness buffer, only for kind 1: the first line that is cut differently, at its start, the rest kept. A refusal 1 to 8 keeps both; 10: more records are needed
+ * than there are slots, all slots hold records; 11: all records are written, but the witness is longer than its buffer. A witness has fewer bytes than there are records,
+ * so a buffer with a byte for each slot is never too short. Buffers of any lengths, 0 included. */
 yindorka_outcome yindorka_check(const uint8_t *pattern, size_t pattern_length, uint8_t *table, size_t table_length, uint8_t *witness, size_t witness_length);
 
 /* The same, and how much looking it took. */

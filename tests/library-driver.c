@@ -2,6 +2,7 @@
 // 'fields PATTERN LINE' prints 'refused NUMBER PLACE', 'none', or 'span START END' and for each field its start and end or 'absent'.
 // 'groups PATTERN' prints 'refused NUMBER PLACE', or 'groups' and the number of each byte's group, then after ' : ' the lowest byte of each group.
 // 'lengths PATTERN' prints 'refused NUMBER PLACE', 'least LEAST greatest GREATEST' or 'least LEAST no limit'.
+// 'record PATTERN' prints 'refused NUMBER PLACE' or 'bytes BYTES'.
 // 'readable PATTERN LINE' prints 'refused NUMBER PLACE' or 'accepted', then after ' : ' the line in hex.
 // 'check PATTERN TABLE WITNESS' calls the checker, with how many bytes of table and witness buffer are lent. Before the call every byte of the table is aa and every byte of the witness buffer bb, and guard bytes stand before
 // and behind both. Prints for each call, on one line, the result as the checker program has it, then the table and the witness buffer in hex ('-' if one is empty),
@@ -192,6 +193,22 @@ static int lengths(const char *pattern_hex)
     return 1;
 }
 
+static int record(const char *pattern_hex)
+{
+    uint8_t *pattern = room(strlen(pattern_hex) + 1);
+    yindorka_record_size x = yindorka_record_bytes(pattern, read_hex(pattern_hex, pattern));
+
+    free(pattern);
+    if (x.number)
+        printf("refused %zu %zu", x.number, x.place);
+    else
+        printf("bytes %zu", x.bytes);
+    if (x.number ? x.bytes : x.place)
+        printf(" and %zu %zu", x.place, x.bytes);
+    putchar('\n');
+    return 1;
+}
+
 static int readable(const char *pattern_hex, const char *line_hex)
 {
     uint8_t *pattern = room(strlen(pattern_hex) + 1), *bytes = room(strlen(line_hex) + 1);
@@ -268,6 +285,8 @@ static int call_named(const char *what, char *first, char *second, const char *t
         return groups(first);
     if (strcmp(what, "lengths") == 0)
         return lengths(first);
+    if (strcmp(what, "record") == 0)
+        return record(first);
     if (!second)
         return 0;
     if (strcmp(what, "fields") == 0)

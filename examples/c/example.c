@@ -5,9 +5,10 @@
 #include <string.h>
 #include "../../include/yindorka.h"
 
-/* 64 KB of table hold 1,024 records. The buffers are the caller's: nothing is allocated. */
+/* 64 KB of table hold 1,074 records of a pattern with 64 leaves, and more of one with fewer: up to 5,041. A witness has fewer bytes than there are records. The buffers are
+ * the caller's: nothing is allocated. */
 static uint8_t table[65536];
-static uint8_t witness[1024];
+static uint8_t witness[5041];
 static yindorka_tables tables;
 
 /* The first line cut differently, and the same in printable bytes of the same groups, where there are any. */
@@ -24,10 +25,11 @@ static void show_witness(const uint8_t *pattern, size_t length, size_t witness_l
 
 static void show_verdict(const uint8_t *pattern, size_t length, yindorka_outcome o)
 {
+    size_t bytes = yindorka_record_bytes(pattern, length).bytes;
     if (o.kind == 0) {
-        printf("alike, %zu records\n", o.first);
+        printf("alike, %zu records of %zu bytes\n", o.first, bytes);
     } else if (o.kind == 1) {
-        printf("unlike, %zu records, first line cut differently: ", o.first);
+        printf("unlike, %zu records of %zu bytes, first line cut differently: ", o.first, bytes);
         show_witness(pattern, length, o.second);
     } else {
         printf("refused with %zu at %zu\n", o.first, o.second);

@@ -6,12 +6,19 @@ use std::os::unix::ffi::OsStringExt;
 use std::process::exit;
 
 // The library's version, structs and functions, as include/yindorka.h has them.
-const VERSION: u32 = 10600;
+const VERSION: u32 = 10700;
 
 #[repr(C)]
 struct Refusal {
     number: usize,
     place: usize,
+}
+
+#[repr(C)]
+struct RecordSize {
+    number: usize,
+    place: usize,
+    bytes: usize,
 }
 
 #[repr(C)]
@@ -56,6 +63,7 @@ extern "C" {
         spans: *mut usize,
     ) -> usize;
     fn yindorka_lengths(pattern: *const u8, length: usize) -> SpanLengths;
+    fn yindorka_record_bytes(pattern: *const u8, length: usize) -> RecordSize;
     fn yindorka_readable(pattern: *const u8, length: usize, line: *mut u8, line_length: usize) -> Refusal;
     fn yindorka_check(
         pattern: *const u8,
@@ -148,7 +156,8 @@ fn readable(text: &[u8], line: &[u8]) -> Vec<u8> {
 
 fn check(text: &[u8]) -> Verdict {
     let mut table = vec![0u8; 65536];
-    let mut witness = vec![0u8; 1024];
+    // A witness has fewer bytes than there are records, and the table holds at most 5,041.
+    let mut witness = vec![0u8; 5041];
     // Safe as above.
     let o = unsafe {
         yindorka_check(
@@ -177,12 +186,17 @@ fn check(text: &[u8]) -> Verdict {
     }
 }
 
-fn show_verdict(out: &mut impl Write, verdict: Verdict) -> io::Result<()> {
+fn show_verdict(out: &mut impl Write, text: &[u8], verdict: Verdict) -> io::Result<()> {
+    // Safe as above.
+    let bytes = match unsafe { yindorka_record_bytes(text.as_ptr(), text.len()) } {
+        RecordSize { number: 0, bytes, .. } => bytes,
+        RecordSize { number, place, .. } => return writeln!(out, "refused with {number} at {place}"),
+    };
     match verdict {
-        Verdict::Alike { count } => writeln!(out, "alike, {count} records"),
+        Verdict::Alike { count } => writeln!(out, "alike, {count} records of {bytes} bytes"),
         Verdict::Unlike { count, witness, readable } => {
             let hex: String = witness.iter().map(|b| format!("{b:02x}")).collect();
-            write!(out, "unlike, {count} records, first line cut differently: {hex}, in readable bytes: ")?;
+            write!(out, "unlike, {count} records of {bytes} bytes, first line cut differently: {hex}, in readable bytes: ")?;
             out.write_all(&readable)?;
             writeln!(out)
         }
@@ -212,7 +226,7 @@ fn show_cut(out: &mut impl Write, pattern: &Pattern, line: &[u8]) -> io::Result<
 // Whether the pattern is one.
 fn show_all(words: &[Vec<u8>]) -> io::Result<bool> {
     let mut out = io::stdout().lock();
-    show_verdict(&mut out, check(&words[0]))?;
+    show_verdict(&mut out, &words[0], check(&words[0]))?;
     let Ok(pattern) = Pattern::read(&words[0]) else {
         return Ok(false);
     };

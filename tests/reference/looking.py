@@ -1,18 +1,21 @@
 """A slow, obvious reading of request 4 of paper 02, how much looking a check takes, apart from the product. Reader and standings are those of paper01.py and standings.py.
 
-looking(pattern, table_length) -> (looks, comparisons). Run from the repository it writes the cases of tests/request-cases/04:
+looking(pattern, table_length) -> (looks, comparisons). Run from the repository it writes looking.jsonl and records.jsonl of tests/request-cases/07, the latter with how many
+bytes a record has:
 python3 tests/reference/looking.py"""
 import json
 import random
-from paper01 import read
-from program_cases import EMPTY_TURNS, REFERENCE, encoded
-from standings import check, is_witness, lowest_bytes, numbered, standing
+from paper01 import leaves, read
+from program_cases import CHECKED, EMPTY_TURNS, REFERENCE, encoded
+from standings import check, is_witness, lowest_bytes, numbered, slots_of, standing, width
 
 
 def looking(pattern, table_length):
     answer = read(pattern)
-    slots = min(table_length // 64, 65535)
-    if answer[0] == 'refused' or slots == 0:
+    if answer[0] == 'refused':
+        return 0, 0
+    slots = slots_of(answer[1], table_length)
+    if slots == 0:
         return 0, 0
     whole, _ = numbered(answer[1])
     lines, standings = [b''], [standing(whole, b'')]
@@ -53,7 +56,7 @@ def random_pattern(rng, depth=3):
 
 
 SMALL = encoded('a|ab', '()', 'a*', '(|a)*', '(a|ab)*', '[^a](|.)', 'a(', 'a**', '')
-LENGTHS = [0, 1, 63, 64, 127, 128, 191, 192, 255, 256, 257, 640]
+LENGTHS = [0, 1, 12, 13, 14, 15, 16, 31, 32, 41, 42, 63, 64, 65, 128, 640]
 LARGE = REFERENCE + EMPTY_TURNS + encoded('.', '.(|.)', '[ab](|[bc]+)', '(a|ab)(bc|c)?', 'B[0-9]{3}', 'B(1|12)(-[0-9]{1,3})?', '(north|south|east|west)', 'x+y?z{2,5}', '.*a.{5}',
                                           '(a|b)*a(a|b){5}', '(.*a.{2}){2}', 'a{63}b', 'a' * 256) + [b'[^\x01-\xff]|\x00\x00', b'\xff(|\x00)']
 
@@ -64,9 +67,9 @@ def cases():
         for t in LENGTHS:
             yield p, t, rng.randrange(4)
     for p in LARGE:
-        yield p, 65536, 1024
+        yield p, 65536, 5041
     for _ in range(150):
-        yield random_pattern(rng).encode(), rng.choice([65536, 65536, rng.randrange(1200)]), 1024
+        yield random_pattern(rng).encode(), rng.choice([65536, 65536, rng.randrange(400)]), 5041
 
 
 def case(pattern, t, w):
@@ -74,7 +77,17 @@ def case(pattern, t, w):
     return {'pattern': pattern.hex(), 'table_len': t, 'witness_len': w, 'result': check(pattern, b'\xaa' * t, b'\xbb' * w)[0], 'looks': looks, 'comparisons': comparisons}
 
 
+def record(pattern):
+    answer = read(pattern)
+    if answer[0] == 'refused':
+        return {'pattern': pattern.hex(), 'result': 'refused %d %d' % answer[1:]}
+    return {'pattern': pattern.hex(), 'bytes': width(len(leaves(answer[1])))}
+
+
 if __name__ == '__main__':
-    with open('tests/request-cases/04/looking.jsonl', 'w') as out:
+    with open('tests/request-cases/07/records.jsonl', 'w') as out:
+        for p in dict.fromkeys(CHECKED + encoded(*('a{%d}' % n for n in range(64)))):
+            out.write(json.dumps(record(p)) + '\n')
+    with open('tests/request-cases/07/looking.jsonl', 'w') as out:
         for c in cases():
             out.write(json.dumps(case(*c)) + '\n')

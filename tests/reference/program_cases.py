@@ -64,8 +64,8 @@ CHECKED = REFERENCE + EMPTY_TURNS + LAZY + encoded(
     '(a?a)*', '(|a*)b',
     # the POSIX set goes on after the first end; leftmost before longest
     '(|a)', 'a|ab|abc|abcd', '(a|b|bc)*d?', 'x*', '(|a|ab)(c|bcd)?', '(a*)(ab)*(b*)', '(a|ab)(bc|c)?', 'a{0,2}ab?',
-    # 1,024 records, and one too many; more than 1,024 standings
-    '((a{3})*|(a{4})*|(a{5})*|(a{17})*)b{3}', '((a{3})*|(a{4})*|(a{5})*|(a{17})*)b{4}', '(.|a.{9})*', '.*a.{9}', '(.|a.{10})*', '(.|a.{20})*',
+    # 1,337 records, as many as there are slots for 47 leaves, and one too many for 48; 1,025 records, and more than any table of the programs has slots
+    '((a{5})*|(a{7})*|(a{10})*|(a{19})*)b{6}', '((a{5})*|(a{7})*|(a{10})*|(a{19})*)b{7}', '(.|a.{9})*', '.*a.{9}', '(.|a.{10})*', '(.|a.{20})*',
     # long witnesses, of 506 and of 992 bytes
     'x((|(a{7})*a{1,6}|(a{8})*a{1,7}|(a{9})*a{1,8})y)?|xa*y', 'x((|(a{9})*a{1,8}|(a{10})*a{1,9}|(a{11})*a{1,10})y)?|xa*y',
     # any bytes: above 127, NUL, CR, tab
@@ -82,15 +82,15 @@ EXPLAINED = REFERENCE + EMPTY_TURNS + LAZY + encoded(
     '.(|.)', '[^0-9](|[^a])', '[^0-~](|x)', '[^!-~](|x)', b'[\x00-\x1f](|\x7f)', '(a|ab)(bc|c)?')
 
 # Every refusal, both verdicts, with every kind of buffer.
-LENGTHS = [(t, w) for t in (0, 1, 63, 64, 65, 127, 128, 255, 256, 257) for w in (0, 1, 2, 3)]
+LENGTHS = [(t, w) for t in (0, 1, 13, 14, 15, 16, 31, 32, 41, 42, 63, 64, 65, 80, 257) for w in (0, 1, 2, 3)]
 CALLS = [(p, t, w) for p in encoded('a|ab', '(a|ab)*', 'a*', '()', 'a(') for t, w in LENGTHS]
 CALLS += [(p, t, w) for p in encoded('', 'a' * 256, 'a**', '\\', '[z-a]', 'a{2,1}', '((', '(' * 17, 'a{63}bc') for t, w in ((0, 0), (1, 1), (64, 0), (130, 2))]
-CALLS += [(p, t, w) for p in encoded('a|ab', 'a{63}', '(a?a)*', '[a-c]|b\xff', 'a(|bcdefg)') for t, w in ((639, 6), (640, 7), (641, 8), (8192, 1024))]
-CALLS += [(p, t, w) for p in encoded('(|a)*') + EMPTY_TURNS + LAZY for t, w in ((0, 0), (64, 1), (127, 2), (191, 1), (192, 0), (192, 1), (257, 3), (575, 3), (576, 2), (640, 8))]
+CALLS += [(p, t, w) for p in encoded('a|ab', 'a{63}', '(a?a)*', '[a-c]|b\xff', 'a(|bcdefg)') for t, w in ((159, 6), (160, 7), (161, 8), (610, 8), (8192, 1024))]
+CALLS += [(p, t, w) for p in encoded('(|a)*') + EMPTY_TURNS + LAZY for t, w in ((0, 0), (14, 1), (31, 2), (41, 1), (42, 0), (42, 1), (64, 3), (143, 3), (144, 2), (257, 8))]
 
 
 def shown(pattern):
-    return check(pattern, bytes(65536), bytes(1024))[0]
+    return check(pattern, bytes(65536), bytes(5041))[0]
 
 
 def explained(pattern):

@@ -1,4 +1,4 @@
-"""A slow, obvious reading of paper 01's outcomes, spans, standings, records and refusals 10 and 11, with requests 1 and 5 of paper 02, apart from the product. The reader
+"""A slow, obvious reading of paper 01's outcomes, spans, standings, records and refusals 10 and 11, with requests 1, 5 and 7 of paper 02, apart from the product. The reader
 is paper01.py's.
 
 check(pattern, table, witness) -> (line that the checker program prints, table afterwards, witness buffer afterwards)."""
@@ -105,20 +105,30 @@ def records(r, slots):
     return found
 
 
-def record_bytes(record):
+def width(n):
+    """The bytes of a record, of a pattern with n leaves: request 7 of paper 02."""
+    return 13 + (6 * n + 7) // 8
+
+
+def slots_of(r, length):
+    """The slots of a table for the records of the written-out pattern r."""
+    return min(length // width(len(leaves(r))), 65535)
+
+
+def record_bytes(record, n):
     _, (order, first, every, some), origin, byte = record
     bits = format(len(order), '07b') + '01'[first] + '01'[some] + '0' * 7 + ''.join('01'[p in every] for p in range(64)) + format(origin, '016b') + format(byte, '08b')
-    bits += ''.join(format(p, '06b') for p in order) + '000000' * (64 - len(order)) + '0' * 24
-    return int(bits, 2).to_bytes(64, 'big')
+    bits += ''.join(format(p, '06b') for p in order) + '000000' * (n - len(order))
+    return int(bits.ljust(8 * width(n), '0'), 2).to_bytes(width(n), 'big')
 
 
 def check(pattern, table, witness):
     answer = read(pattern)
     if answer[0] == 'refused':
         return 'refused %d %d' % answer[1:], table, witness
-    slots = min(len(table) // 64, 65535)
+    slots = slots_of(answer[1], len(table))
     found = records(answer[1], slots)
-    written = b''.join(record_bytes(x) for x in found[:slots])
+    written = b''.join(record_bytes(x, len(leaves(answer[1]))) for x in found[:slots])
     table = written + table[len(written):]
     if len(found) > slots:
         return 'refused 10 0', table, witness

@@ -49,8 +49,8 @@ module _ {p : List ℕ} {r : Reading} (read : ReadRight p r) {asked : Bool} {old
   begun-unread a e s t = unread a (refused-fault read e) s t
 
 -- The report, with what stands before it.
-pub reported-by : {p old new final : List ℕ} {n m k : ℕ} {x y : List ℕ × List ℕ} (asked : Bool) → Begun asked p old n new m → Printed 4292 (λ w. Reported x p w y) new m final k
-    → Printed 4349 (λ w. ReportedBy asked x p w y) old n final k
+pub reported-by : {p old new final : List ℕ} {n m k : ℕ} {x y : List ℕ × List ℕ} (asked : Bool) → Begun asked p old n new m → Printed 20360 (λ w. Reported x p w y) new m final k
+    → Printed 20417 (λ w. ReportedBy asked x p w y) old n final k
 reported-by {x = x} {y = y} asked (long {t = t} a reads (v, l, s, f)) (w, z, i, g) =
     rw a (
       v ++ w,

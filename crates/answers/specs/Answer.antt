@@ -83,4 +83,4 @@ Answer Groups x p w y = Listed p w × (y ≡ x)
 
 -- The answer, of at most 5,383 bytes, is added to the n bytes that the buffer `old` held.
 abbrev pub Answered : Asked → List ℕ × List ℕ → List ℕ → List ℕ × List ℕ → List ℕ → ℕ → List ℕ → ℕ → Type 0
-Answered asked x p y old n new m = Printed 5383 (λ w. Answer asked x p w y) old n new m
+Answered asked x p y old n new m = Printed 20417 (λ w. Answer asked x p w y) old n new m

@@ -15,14 +15,14 @@ use lines::SIZE;
 use lines::State;
 use matchers::Spans;
 
-// What is lent to the checker for each pattern: 1,024 slots, and a witness buffer. Each byte of a witness leads to a further record, so no witness within
-// 1,024 records is longer than the buffer.
+// What is lent to the checker for each pattern: a table with 1,074 slots for 64 leaves and 5,041 for none, and a witness buffer. Each byte of a witness leads to a
+// further record, so no witness within 5,041 records is longer than the buffer.
 pub const TABLE: usize = 65536;
 
-pub const WITNESS: usize = 1024;
+pub const WITNESS: usize = 5041;
 
-// No printed line is longer: 'groups' and 256 numbers, each of at most 20 digits.
-const LONGEST: usize = 5383;
+// No printed line is longer: a report with how long a match can be, and a witness of 5,041 bytes in hex, twice.
+const LONGEST: usize = 20417;
 
 // What is asked for a pattern.
 pub enum Asked {
@@ -110,7 +110,7 @@ fn judge(
     witness: &mut [u8; WITNESS],
     spans: bool,
 ) -> usize
-    ensures { λ r. ⌜ Printed 4232 (λ w. Judged spans (now (table .entry), now (witness .entry)) (now (pattern .entry)) w (now (table .exit), now (witness .exit)))
+    ensures { λ r. ⌜ Printed 20300 (λ w. Judged spans (now (table .entry), now (witness .entry)) (now (pattern .entry)) w (now (table .exit), now (witness .exit)))
         (now (out .entry)) n (now (out .exit)) r ⌝ }
 {
     let x = checker::check(pattern, table, witness);
@@ -149,7 +149,7 @@ fn report(
     witness: &mut [u8; WITNESS],
     details: bool,
 ) -> usize
-    ensures { λ r. ⌜ Printed 4349 (λ w. ReportedBy details (now (table .entry), now (witness .entry)) (now (pattern .entry)) w (now (table .exit), now (witness .exit)))
+    ensures { λ r. ⌜ Printed 20417 (λ w. ReportedBy details (now (table .entry), now (witness .entry)) (now (pattern .entry)) w (now (table .exit), now (witness .exit)))
         (now (out .entry)) n (now (out .exit)) r ⌝ }
 {
     let start = ahead(out, n, pattern, details);
@@ -215,7 +215,7 @@ pub fn answer_lines(
     asked: Asked,
     state: State,
 ) -> State
-    ensures served { λ r. ⌜ Served (Answer asked) 5383 (now (chunk .entry)) (now (line .entry)) (now (out .entry)) (now (table .entry), now (witness .entry)) state
+    ensures served { λ r. ⌜ Served (Answer asked) 20417 (now (chunk .entry)) (now (line .entry)) (now (out .entry)) (now (table .entry), now (witness .entry)) state
         (now (line .exit)) (now (out .exit)) (now (table .exit), now (witness .exit)) r ⌝ }
 {
     let mut s = state;

@@ -1,7 +1,7 @@
 -- Demands 1 and 3 in their words, about the result of `check` and the content of both buffers.
 -- Assumes nothing.
 use mathlib.Core.Path.{_≡_, refl, ap, ap₂, _∙_, subst}
-use mathlib.Core.Logic.{_⊎_, inl, inr, _↔_, Iff·symm, Iff·trans}
+use mathlib.Core.Logic.{_⊎_, inl, inr, _↔_, _≢_, Iff·symm, Iff·trans}
 use Prim.Native.Nat.{ℕ, _≤_}
 use mathlib.Core.List.{List}
 use native.Mathlib.Omega.{arith}
@@ -15,6 +15,7 @@ use Rattle.grammar.specs.Limits.{Reads}
 use Rattle.grammar.specs.Refusals.{Fault}
 use Rattle.grammar.specs.WriteOut.{writeOut}
 use Rattle.grammar.specs.Eager.{eagerly}
+use Rattle.verdict.specs.Record.{formOf, wide}
 use Rattle.verdict.specs.Table.{slots}
 use Rattle.verdict.specs.Checked.{Result, refused, Whole, whole, CheckedBy, Checked, by-reader}
 use Rattle.verdict.specs.Demand.{NoneCut, FirstCut, Number, Outnumber, Longer}
@@ -22,7 +23,8 @@ use Rattle.verdict.specs.Code.Found.{Found, not-read, same-cuts, first-witness,
 use Rattle.grammar.proofs.Right.{either-way, not-both}
 use Rattle.verdict.proofs.Checked.{checked-one, checked-found}
 use Rattle.verdict.proofs.Promise.{fault-number}
-use Rattle.verdict.proofs.Unmoved.{plain-checked, bare-checked, eager-checked}
+use Rattle.verdict.proofs.One.{result, witness}
+use Rattle.verdict.proofs.Unmoved.{plain-checked, bare-checked, eager-checked, verdict-stays}
 use Rattle.verdict.proofs.Demand.{RefusedBy, checked-is, none-robust, alike-means, unlike-means, ten-exactly, eleven-exactly, withheld-exactly, refused-means, lengths-kept}
 use Rattle.checker.specs.declared.Verdict.{Verdict}
 use Rattle.checker.specs.declared.Verdict.the-variants.{Alike, Unlike, Refused}
@@ -44,10 +46,7 @@ module _ (p t v : List ℕ) (x : Verdict) (t′ v′ : List ℕ) (h : Checks p t
   check-is = checked-is h
 
   one-result : {n q : ℕ} {t″ v″ : List ℕ} → Checked p t v (whole (refused n q) t″ v″) → x ≡ Refused n q
-  one-result {n} {q} {t″} {v″} c = refused-case x (ap (λ w. result w) (checked-one h c))
-    where
-      result : Whole → Result
-      result (whole y a b) = y
+  one-result c = refused-case x (ap result (checked-one h c))
 
   -- A refusal at place 0 is the verdict exactly if it is right.
   refusal : {n : ℕ} → (x ≡ Refused n 0) ↔ RefusedBy p t v n
@@ -68,16 +67,20 @@ module _ (p t v : List ℕ) (x : Verdict) (t′ v′ : List ℕ) (h : Checks p t
   )
 
   -- AS BEFORE THE REQUESTS: what `check` hands over for a plain pattern is the one right result by paper 01's list as it was.
-  pub check-plain : ((a : Alternation) → Reads p a → Plain (writeOut a)) → (z : Whole) → CheckedBy (standingBy base) p t v z ↔ (z ≡ whole (resultOf x) t′ v′)
+  pub check-plain : ((a : Alternation) → Reads p a → Plain (writeOut a)) → (z : Whole) → CheckedBy formOf (standingBy base) p t v z ↔ (z ≡ whole (resultOf x) t′ v′)
   check-plain d z = Iff·trans (Iff·symm (plain-checked z d)) (check-is z)
 
   -- AND FOR EVERY PATTERN the one of the pattern without its brackets.
-  pub check-bare : (z : Whole) → CheckedBy (λ r. standing (bare r)) p t v z ↔ (z ≡ whole (resultOf x) t′ v′)
+  pub check-bare : (z : Whole) → CheckedBy formOf (λ r. standing (bare r)) p t v z ↔ (z ≡ whole (resultOf x) t′ v′)
   check-bare z = Iff·trans (Iff·symm (bare-checked z)) (check-is z)
 
   -- AND FOR A PATTERN WITHOUT LAZY REPEATS the one by the list in which every repeat takes its turns first.
-  pub check-eager : ((a : Alternation) → Reads p a → eagerly a ≡ a) → (z : Whole) → CheckedBy (standingBy turnsFirst) p t v z ↔ (z ≡ whole (resultOf x) t′ v′)
+  pub check-eager : ((a : Alternation) → Reads p a → eagerly a ≡ a) → (z : Whole) → CheckedBy formOf (standingBy turnsFirst) p t v z ↔ (z ≡ whole (resultOf x) t′ v′)
   check-eager u z = Iff·trans (Iff·symm (eager-checked z u)) (check-is z)
+
+  -- AND WITH PAPER 01'S RECORDS OF 64 BYTES, where they had slots enough in the table: the same result, count and witness.
+  pub check-stays : {y : Result} {t″ v″ : List ℕ} → y ≢ refused 10 0 → CheckedBy (λ r. wide) standing p t v (whole y t″ v″) → (resultOf x ≡ y) × (v′ ≡ v″)
+  check-stays other old = let (u, c) = verdict-stays other old in let e = checked-one h c in (ap result e, ap witness e)
 
   -- The buffers keep their lengths.
   pub check-lengths : (length t′ ≡ length t) × (length v′ ≡ length v)
@@ -104,22 +107,22 @@ module _ (p t v : List ℕ) (x : Verdict) (t′ v′ : List ℕ) (h : Checks p t
 
     -- WITHHELD: exactly if the distinct standings of the lines that no line cut differently comes before outnumber the slots, or the first line cut differently is
     -- longer than the buffer;
-    pub check-withheld : ((x ≡ Refused 10 0) ⊎ (x ≡ Refused 11 0)) ↔ (Outnumber (writeOut a) (slots (length t)) ⊎ Longer (writeOut a) (length v))
+    pub check-withheld : ((x ≡ Refused 10 0) ⊎ (x ≡ Refused 11 0)) ↔ (Outnumber (writeOut a) (slots (formOf (writeOut a)) (length t)) ⊎ Longer (writeOut a) (length v))
     check-withheld = (
       λ c. withheld-exactly a reads .0 (either (λ e. inl (refusal .0 e)) (λ e. inr (refusal .0 e)) c),
       λ o. either (λ c. inl (refusal .1 c)) (λ c. inr (refusal .1 c)) (withheld-exactly a reads .1 o),
     )
 
     -- WITH 10 exactly if they outnumber the slots,
-    pub check-ten : (x ≡ Refused 10 0) ↔ Outnumber (writeOut a) (slots (length t))
+    pub check-ten : (x ≡ Refused 10 0) ↔ Outnumber (writeOut a) (slots (formOf (writeOut a)) (length t))
     check-ten = Iff·trans refusal (ten-exactly a reads)
 
     -- WITH 11 exactly if they do not, and that line is longer than the buffer.
-    pub check-eleven : (x ≡ Refused 11 0) ↔ ((Outnumber (writeOut a) (slots (length t)) → ⊥) × Longer (writeOut a) (length v))
+    pub check-eleven : (x ≡ Refused 11 0) ↔ ((Outnumber (writeOut a) (slots (formOf (writeOut a)) (length t)) → ⊥) × Longer (writeOut a) (length v))
     check-eleven = Iff·trans refusal (eleven-exactly a reads)
 
     -- OTHERWISE it is a verdict, and carries their number.
-    pub check-decides : (Outnumber (writeOut a) (slots (length t)) → ⊥) → (Longer (writeOut a) (length v) → ⊥) → ((n : ℕ) × (x ≡ Alike n)) ⊎ ((n k : ℕ) × (x ≡ Unlike n k))
+    pub check-decides : (Outnumber (writeOut a) (slots (formOf (writeOut a)) (length t)) → ⊥) → (Longer (writeOut a) (length v) → ⊥) → ((n : ℕ) × (x ≡ Alike n)) ⊎ ((n k : ℕ) × (x ≡ Unlike n k))
     check-decides f g = go x refl
       where
         withheld : {n q : ℕ} → x ≡ Refused n q → Found p t v (refused n q) t′ v′ → ⊥

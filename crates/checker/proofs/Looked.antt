@@ -14,6 +14,7 @@ use Rattle.grammar.specs.Limits.{Reads}
 use Rattle.grammar.specs.WriteOut.{writeOut}
 use Rattle.grammar.proofs.Right.{unambiguous, not-both}
 use Rattle.grammar.proofs.Size.{writeOut-numbered}
+use Rattle.verdict.specs.Record.{Form, formOf}
 use Rattle.verdict.specs.Table.{slots}
 use Rattle.verdict.specs.Checked.{alike}
 use Rattle.verdict.specs.Code.Found.{Found, not-read, same-cuts, first-witness, no-slot, no-room}
@@ -36,18 +37,18 @@ module _ {p t : List ℕ} where
   looks-one (unread {n = n} {q = q} f) (searched {a = a} reads x) = absurd (not-both p a n q reads f)
   looks-one (searched {a = a} reads x) (unread {n = n} {q = q} f) = absurd (not-both p a n q reads f)
   looks-one (searched {a = a} {y = y} reads x) (searched {a = b} {y = z} also u) =
-      takes-one (writeOut a) (slots (length t)) (writeOut-numbered a) x (subst (λ c. Takes (writeOut c) (slots (length t)) z) (unambiguous p b a also reads) u)
+      takes-one (writeOut a) (slots (formOf (writeOut a)) (length t)) (writeOut-numbered a) x (subst (λ c. Takes (writeOut c) (slots (formOf (writeOut c)) (length t)) z) (unambiguous p b a also reads) u)
 
   -- The search took what the check took.
-  takes-here : {y : Looking} (a : Alternation) → Reads p a → LooksFor p t y → Takes (writeOut a) (slots (length t)) y
+  takes-here : {y : Looking} (a : Alternation) → Reads p a → LooksFor p t y → Takes (writeOut a) (slots (formOf (writeOut a)) (length t)) y
   takes-here a reads (unread {n = n} {q = q} f) = absurd (not-both p a n q reads f)
-  takes-here a reads (searched {a = b} {y = y} also x) = subst (λ c. Takes (writeOut c) (slots (length t)) y) (unambiguous p b a also reads) x
+  takes-here a reads (searched {a = b} {y = y} also x) = subst (λ c. Takes (writeOut c) (slots (formOf (writeOut c)) (length t)) y) (unambiguous p b a also reads) x
 
 -- Fewer than 2 to the power of 24.
-not-saturated : (r : Re) (n m : ℕ) → n ≤ slots m → saturated (n * groupsOf r .count) ≡ n * groupsOf r .count
-not-saturated r n m h =
+not-saturated : (f : Form) (r : Re) (n m : ℕ) → n ≤ slots f m → saturated (n * groupsOf r .count) ≡ n * groupsOf r .count
+not-saturated f r n m h =
     let few : groupsOf r .count ≤ 256 = few-groups (shares r) in
-    let slotted : n ≤ 65535 = omega (arith, slots-most m) in
+    let slotted : n ≤ 65535 = omega (arith, slots-most f m) in
     let most : n * groupsOf r .count ≤ 65535 * 256 = mul-le-mul slotted few in
     min-eq-left (omega arith)
 
@@ -56,18 +57,19 @@ pub check-looks : {p t v t′ v′ : List ℕ} {x : Report} {n : ℕ} (a : Alter
     → x .looking .looks ≡ n * groupsOf (writeOut a) .count
 check-looks {p} {t} {v} {t′} {v′} {x} {n} a reads r e = go (subst (λ y. Found p t v (resultOf y) t′ v′) e (checked-found (r .checks)))
   where
-    looks : (L : List (List ℕ)) → n ≡ length L → Alike (standing (writeOut a)) L → length L ≤ slots (length t) → x .looking .looks ≡ n * groupsOf (writeOut a) .count
+    looks : (L : List (List ℕ)) → n ≡ length L → Alike (standing (writeOut a)) L → length L ≤ slots (formOf (writeOut a)) (length t) → x .looking .looks ≡ n * groupsOf (writeOut a) .count
     looks L f all fits =
         let (k, l, s) = all .complete [] tt in
-        looks-alike (writeOut a) (slots (length t)) (writeOut-numbered a) all (omega arith) fits (takes-here a reads (r .looks))
+        looks-alike (writeOut a) (slots (formOf (writeOut a)) (length t)) (writeOut-numbered a) all (omega arith) fits (takes-here a reads (r .looks))
         ∙ ap (λ i. saturated (i * groupsOf (writeOut a) .count)) (sym f)
-        ∙ not-saturated (writeOut a) n (length t) (omega arith)
+        ∙ not-saturated (formOf (writeOut a)) (writeOut a) n (length t) (omega arith)
 
     go : Found p t v (alike n) t′ v′ → x .looking .looks ≡ n * groupsOf (writeOut a) .count
     go (not-read f i b d) = absurd (let z : _≡_ {A = ℕ} 0 1 = cc in omega arith)
     go (same-cuts {a = b} {L = L} also all fits i h d) =
         let f : n ≡ length L = cc in
-        looks L f (subst (λ c. Alike (standing (writeOut c)) L) (unambiguous p b a also reads) all) fits
+        let one = unambiguous p b a also reads in
+        looks L f (subst (λ c. Alike (standing (writeOut c)) L) one all) (subst (λ c. length L ≤ slots (formOf (writeOut c)) (length t)) one fits)
     go (first-witness j k l m i b d) = absurd (let z : _≡_ {A = ℕ} 0 1 = cc in omega arith)
     go (no-slot j k l i b d) = absurd (let z : _≡_ {A = ℕ} 0 1 = cc in omega arith)
     go (no-room j k l m i b d) = absurd (let z : _≡_ {A = ℕ} 0 1 = cc in omega arith)

@@ -8,6 +8,7 @@ use Rattle.theory.specs.Pattern.{count, Numbered}
 use Rattle.grammar.specs.Grammar.{Alternation}
 use Rattle.grammar.specs.Limits.{Reads}
 use Rattle.grammar.specs.WriteOut.{writeOut}
+use Rattle.verdict.specs.Record.{formOf}
 use Rattle.verdict.specs.Table.{slots, onto}
 use Rattle.verdict.specs.Code.Found.{Found}
 use Rattle.arrays.specs.declared.Pattern.{Pattern}
@@ -26,12 +27,12 @@ pub record Sound (x : Pattern) : Type 0 where
   pub most : count (decode x) ≤ 64
   pub holds : HoldsPattern x (decode x)
 
--- The last of the n records in the table t is the witness's: its line w goes to the buffer v, if it is not longer.
-pub data Handed (t : List ℕ) (n : ℕ) (v : List ℕ) : Verdict → List ℕ → Type 0 where
-  given : {w : List ℕ} → Line t (n - 1) w → length w ≤ length v → Handed t n v (Unlike n (length w)) (onto v w)
-  too-long : {w : List ℕ} → Line t (n - 1) w → length v < length w → Handed t n v (Refused 11 0) v
+-- The last of the n records in the table t, of m bytes each, is the witness's: its line w goes to the buffer v, if it is not longer.
+pub data Handed (m : ℕ) (t : List ℕ) (n : ℕ) (v : List ℕ) : Verdict → List ℕ → Type 0 where
+  given : {w : List ℕ} → Line m t (n - 1) w → length w ≤ length v → Handed m t n v (Unlike n (length w)) (onto v w)
+  too-long : {w : List ℕ} → Line m t (n - 1) w → length v < length w → Handed m t n v (Refused 11 0) v
 
 -- What is decided by the arrays of a pattern that is read.
 pub record Decides (x : Pattern) (t v : List ℕ) (y : Report) (t′ v′ : List ℕ) : Type 0 where
   pub found : {p : List ℕ} {a : Alternation} → Reads p a → decode x ≡ writeOut a → Found p t v (resultOf (y .verdict)) t′ v′
-  pub looks : Takes (decode x) (slots (length t)) (y .looking)
+  pub looks : Takes (decode x) (slots (formOf (decode x)) (length t)) (y .looking)

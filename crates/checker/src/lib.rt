@@ -25,47 +25,47 @@ pub struct Report {
 }
 
 // How many bytes the line of record k has: one for each step back to record 0.
-fn line_length(table: &[u8], k: usize) -> usize
-    requires { ⌜ Lined (now table) k ⌝ }
-    ensures { λ r. ⌜ Length (now (table .entry)) k r ⌝ }
+fn line_length(table: &[u8], width: usize, k: usize) -> usize
+    requires { ⌜ Lined width (now table) k ⌝ }
+    ensures { λ r. ⌜ Length width (now (table .entry)) k r ⌝ }
 {
     let mut k = k;
     let mut n = 0;
     while 0 < k {
-        k = table::origin(table, k);
+        k = table::origin(table, width, k);
         n += 1;
     }
     n
 }
 
 // Writes the line of record k, of n bytes, to the start of the buffer: from its last byte on.
-fn write_line(table: &[u8], k: usize, n: usize, witness: &mut [u8])
-    requires { ⌜ Fits (now table) k n (now witness) ⌝ }
-    ensures { λ _. ⌜ Written (now (table .entry)) k (now (witness .entry)) (now (witness .exit)) ⌝ }
+fn write_line(table: &[u8], width: usize, k: usize, n: usize, witness: &mut [u8])
+    requires { ⌜ Fits width (now table) k n (now witness) ⌝ }
+    ensures { λ _. ⌜ Written width (now (table .entry)) k (now (witness .entry)) (now (witness .exit)) ⌝ }
 {
     let mut k = k;
     let mut i = n;
     while 0 < k {
         i -= 1;
-        witness[i] = table::byte(table, k);
-        k = table::origin(table, k);
+        witness[i] = table::byte(table, width, k);
+        k = table::origin(table, width, k);
     }
 }
 
 // The last of n records is the witness's: its line is handed over, if the buffer has room for it.
-fn hand_over(n: usize, table: &[u8], witness: &mut [u8]) -> Verdict
-    requires { ⌜ (0 < n) × Lined (now table) (n - 1) ⌝ }
-    ensures { λ r. ⌜ Handed (now (table .entry)) n (now (witness .entry)) r (now (witness .exit)) ⌝ }
+fn hand_over(n: usize, table: &[u8], width: usize, witness: &mut [u8]) -> Verdict
+    requires { ⌜ (0 < n) × Lined width (now table) (n - 1) ⌝ }
+    ensures { λ r. ⌜ Handed width (now (table .entry)) n (now (witness .entry)) r (now (witness .exit)) ⌝ }
 {
     let last = n - 1;
-    let length = line_length(table, last);
+    let length = line_length(table, width, last);
     if witness.len() < length {
         return Verdict::Refused {
             number: 11,
             place: 0,
         };
     }
-    write_line(table, last, length, witness);
+    write_line(table, width, last, length, witness);
     Verdict::Unlike {
         count: n,
         length: length,
@@ -78,12 +78,13 @@ fn decide(x: Pattern, table: &mut [u8], witness: &mut [u8]) -> Report
     ensures { λ r. ⌜ Decides x (now (table .entry)) (now (witness .entry)) r (now (table .exit)) (now (witness .exit)) ⌝ }
 {
     let masks = x.masks;
+    let width = records::width(x.leaves);
     let tables = follow::tables_of(x);
     let rows = tables.rows;
     let lens = tables.lens;
     let sets = tables.sets;
     let ends = tables.ends;
-    let course = search::search(table, &masks, &rows, &lens, &sets, &ends);
+    let course = search::search(table, width, &masks, &rows, &lens, &sets, &ends);
     let looking = course.looking;
     let found = course.progress;
     match found {
@@ -92,7 +93,7 @@ fn decide(x: Pattern, table: &mut [u8], witness: &mut [u8]) -> Report
             looking,
         },
         Progress::Witness(n) => Report {
-            verdict: hand_over(n, table, witness),
+            verdict: hand_over(n, table, width, witness),
             looking,
         },
         Progress::Full => Report {

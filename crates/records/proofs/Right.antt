@@ -1,6 +1,6 @@
 -- What is packed is the standing's record, and what is unpacked from a record is its standing.
 -- Assumes nothing.
-use mathlib.Core.Path.{_≡_, refl, sym, ap, _∙_}
+use mathlib.Core.Path.{_≡_, refl, sym, ap, _∙_, subst}
 use mathlib.Core.Bool.{Bool, true, false, cond}
 use mathlib.Core.List.{List, [], _∷_, _++_}
 use Prim.Native.Nat.{ℕ, _+_, _*_, _/_, _%_, _≤_, _<_, min}
@@ -14,11 +14,13 @@ use Rattle.theory.specs.Pattern.{Re, count, Numbered}
 use Rattle.theory.specs.Standing.{member, from, filter, standing}
 use Rattle.theory.specs.Standing as Theory
 use Rattle.theory.proofs.Tests.{not-true, same-test, or-left, or-right, or-cases, either}
-use Rattle.theory.proofs.Members.{Within, filter-of, filter-passes, member-from}
+use Rattle.theory.proofs.Members.{Within, filter-of, filter-passes, member-from, length-from, once-size}
 use Rattle.theory.proofs.Sizes.{order-once, order-below, order-size}
 use Rattle.words.specs.Sets.{hasBit}
-use Rattle.verdict.specs.Record.{recordBytes}
+use Rattle.verdict.specs.Record.{formOf, wide, recordBytes}
+use Rattle.verdict.specs.Code.Held.{held}
 use Rattle.verdict.proofs.Packed.{setBytes, sixBytes, packed}
+use Rattle.verdict.proofs.Forms.{held-record}
 use Rattle.verdict.proofs.Injective.{below-by}
 use Rattle.standing.specs.declared.Standing.{Standing}
 use Rattle.standing.specs.Stands.{means, Fine, Stands}
@@ -55,7 +57,7 @@ filter-above f c p h = not-true (member p (filter f (from 0 c))) λ t. omega (ar
 abbrev given : Standing → ℕ → ℕ → List ℕ
 given s origin byte = put (2 * min (s .n) 64 + one (s .first)) (one (s .some) * 128) ((origin / 256 % 256) ∷ (origin % 256) ∷ byte ∷ []) (bytesOf 8 (s .all)) (threes 16 (take (min (s .n) 64) (s .list)))
 
-put-right : (s : Standing) (origin byte : ℕ) → length (s .list) ≡ 64 → byte < 256 → (r : Re) → Fine r s → given s origin byte ≡ recordBytes (means (count r) s) origin byte
+put-right : (s : Standing) (origin byte : ℕ) → length (s .list) ≡ 64 → byte < 256 → (r : Re) → Fine r s → given s origin byte ≡ recordBytes wide (means (count r) s) origin byte
 put-right s origin byte long small r fine =
     let m = means (count r) s in
     let n : min (s .n) 64 ≡ s .n = min-eq-left (fine .size) in
@@ -71,7 +73,11 @@ put-right s origin byte long small r fine =
 
 -- THE RECORD of the standing.
 pub pack-right : (s : Standing) (origin byte : ℕ) → length (s .list) ≡ 64 → byte < 256 → Packed s origin byte (given s origin byte)
-pack-right s origin byte long small = record { is = λ {r} most x. put-right s origin byte long small r (x .fine) ∙ ap (λ m. recordBytes m origin byte) (x .is) }
+pack-right s origin byte long small = record {
+  is = λ {r} {t} most x.
+      let few : length (t .order) ≤ count r = subst (λ m. length (m .order) ≤ count r) (x .is) (rw (length-from 0 (count r)) at (once-size (x .fine .once) (from 0 (count r)) (λ p i. member-from p 0 (count r) (omega arith) (omega (arith, x .fine .leaves p i))))) in
+      put-right s origin byte long small r (x .fine) ∙ ap (λ m. recordBytes wide m origin byte) (x .is) ∙ sym (held-record (count r) t origin byte few most);
+}
 
 -- The standing as its fields are taken out.
 abbrev pub taken : List ℕ → Standing
@@ -139,6 +145,6 @@ pub unpack-right : (v : List ℕ) → Unpacked v (taken v)
 unfolding s t
 unpack-right v = record {
   stands = λ {r} w origin byte d most e.
-      let all : v ≡ fields (standing r w) origin byte = e ∙ packed (standing r w) origin byte in
+      let all : v ≡ fields (standing r w) origin byte = e ∙ held-record (count r) (standing r w) origin byte (order-size r d w) most ∙ packed (standing r w) origin byte in
       rw all (record { fine = s-fine r d most w origin byte; is = s-means r d most w origin byte });
 }

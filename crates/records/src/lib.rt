@@ -1,13 +1,22 @@
-// A standing as a record of 64 bytes, and back: paper 01, "Standings and their records".
-// Byte 0 is the count of (a) with (b), byte 1 (d), bytes 2 to 9 (c), 10 and 11 the record that it comes from, 12 by which byte, 13 to 60 the leaf numbers of (a), four to three bytes, and the rest zero.
+// A standing as a record, and back: paper 01, "Standings and their records", in the width of request 7.
+// Byte 0 is the count of (a) with (b), byte 1 (d), bytes 2 to 9 (c), 10 and 11 the record that it comes from, 12 by which byte; from 13 on the leaf numbers of (a), four to three bytes.
+// Code holds a record in 64 bytes, and those past its width are zero: so one `pack` and one `unpack` do for every width.
 ghost use mathlib.Core.Path.{_≡_};
 ghost use mathlib.Core.List.{[], _∷_};
 ghost use Prim.Native.Nat.{_+_, _*_, _/_, _%_, _≤_, _<_, min};
 ghost use lib.ListN.{getD, take, drop, replicate};
 ghost use lib.Seq.{sets};
+ghost use Rattle.verdict.specs.Record.{narrow};
 ghost use Rattle.records.specs.Packing.{Packed, Unpacked};
 ghost use Rattle.records.specs.Bytes.{one, turn, bytesOf, setOf, three, threes, four, fours};
 use standing::Standing;
+
+// How many bytes a record has, of a pattern with so many leaves; a pattern has no more than 64.
+pub fn width(leaves: usize) -> usize
+    ensures width { λ r. ⌜ r ≡ narrow (min leaves 64) .bytes ⌝ }
+{
+    13 + (6 * words::least(leaves, words::LEAVES) + 7) / 8
+}
 
 fn one(b: bool) -> u8
     ensures { λ r. ⌜ (r ≡ one b) × (r < 2) ⌝ }

@@ -6,6 +6,7 @@ use Prim.Native.Nat.{ℕ, zero, suc, _+_, _*_, _≤_, _<_}
 use mathlib.Core.Bool.{true, false}
 use mathlib.Core.List.{List, [], _∷_, _++_, append-nil}
 use native.Mathlib.Omega.{arith}
+use native.Mathlib.Nat.{mul-one, mul-suc}
 use lib.ListN.{length}
 use lib.Seq.{sets}
 use lib.Dec.{T}
@@ -18,9 +19,9 @@ use Rattle.theory.proofs.Search.{trace-bytes}
 use Rattle.theory.proofs.Records.{carries, search-records, search-complete}
 use Rattle.theory.proofs.Run.{start-no-witness}
 use Rattle.theory.proofs.Groups.{pass-over}
-use Rattle.verdict.specs.Record.{recordBytes}
+use Rattle.verdict.specs.Record.{formOf, recordBytes}
 use Rattle.verdict.specs.Table.{recordOf, recordsOf, records, slots, onto}
-use Rattle.verdict.proofs.Tables.{records-size, record-64, records-add, record-is, record-zero, onto-more, slots-fit, onto-sets}
+use Rattle.verdict.proofs.Tables.{records-size, record-size, records-add, record-is, record-zero, onto-more, slots-fit, onto-sets}
 use Rattle.standing.specs.declared.Standing.{Standing}
 use Rattle.standing.specs.Stands.{Stands}
 use Rattle.groups.specs.Numbers.{shares, isLowest}
@@ -31,13 +32,13 @@ use Rattle.search.specs.Turns.{more, lookedSoFar, Tallied, Searching, Wo
 use Rattle.search.proofs.Tallies.{so-far-none, tally-begin, tally-pass, tally-known, tally-last, tally-new, tally-turn, takes-nothing, takes-all, takes-witness, takes-full}
 
 -- The table with one record, and with none.
-one-record : (r : Re) (t₀ : List ℕ) → 0 < slots (length t₀) → onto t₀ (records (standing r) ([] ∷ [])) ≡ sets t₀ 0 (recordBytes (standing r []) 0 0)
+one-record : (r : Re) (t₀ : List ℕ) → 0 < slots (formOf r) (length t₀) → onto t₀ (records (formOf r) (standing r) ([] ∷ [])) ≡ sets t₀ 0 (recordBytes (formOf r) (standing r []) 0 0)
 unfolding recordsOf
 one-record r t₀ h =
-    ap (onto t₀) (append-nil _ ∙ record-zero r [])
-    ∙ onto-sets t₀ (recordBytes (standing r []) 0 0) (omega (arith, record-64 (standing r []) 0 0, slots-fit (length t₀)))
+    ap (onto t₀) (append-nil _ ∙ record-zero (formOf r) r [])
+    ∙ onto-sets t₀ (recordBytes (formOf r) (standing r []) 0 0) (omega (arith, record-size (formOf r) (standing r []) 0 0, slots-fit (formOf r) (length t₀) 1 h, mul-one (formOf r .bytes)))
 
-no-record : (r : Re) (t₀ : List ℕ) → t₀ ≡ onto t₀ (records (standing r) [])
+no-record : (r : Re) (t₀ : List ℕ) → t₀ ≡ onto t₀ (records (formOf r) (standing r) [])
 unfolding recordsOf
 no-record r t₀ = refl
 
@@ -81,9 +82,9 @@ module _ {r : Re} (d : Numbered 0 r) {t₀ : List ℕ} where
         last = subst (λ k. Tallied r (lookedSoFar r (w .state .lines) q c ++ (line w ∷ [])) (w .state .lines ++ (line w ∷ [])) (more y k)) (w .state .size) (tally-last r q c (w .state .tallied) lowest unmet)
 
         -- No slot is left.
-        pub full-turn : slots (length t₀) ≤ n → SlotsFull r t₀ t × Takes r (slots (length t₀)) (more y n)
+        pub full-turn : slots (formOf r) (length t₀) ≤ n → SlotsFull r t₀ t × Takes r (slots (formOf r) (length t₀)) (more y n)
         full-turn h =
-            let size : length (w .state .lines) ≡ slots (length t₀) = omega (arith, w .state .size, w .state .holds .fits) in (
+            let size : length (w .state .lines) ≡ slots (formOf r) (length t₀) = omega (arith, w .state .size, w .state .holds .fits) in (
               record {
                 lines = w .state .lines;
                 size = size;
@@ -94,10 +95,10 @@ module _ {r : Re} (d : Numbered 0 r) {t₀ : List ℕ} where
                   more = (line w, below-snoc 256 (at (w .state .lines) q) c (trace-bytes (standing r) (carries r d) 256 (w .state .search) q here) byte, unmet);
                 };
               },
-              takes-full r (slots (length t₀)) (w .state .lines) q c here byte lowest unmet d size (w .state .none) (search-records r d grown) (w .state .tallied) last,
+              takes-full r (slots (formOf r) (length t₀)) (w .state .lines) q c here byte lowest unmet d size (w .state .none) (search-records r d grown) (w .state .tallied) last,
             )
 
-        module _ (room : n < slots (length t₀)) {t′ : List ℕ} (stored : t′ ≡ sets t (64 * n) (recordBytes (standing r (line w)) q c)) where
+        module _ (room : n < slots (formOf r) (length t₀)) {t′ : List ℕ} (stored : t′ ≡ sets t (formOf r .bytes * n) (recordBytes (formOf r) (standing r (line w)) q c)) where
           longer : length (w .state .lines ++ (line w ∷ [])) ≡ suc n
           longer = omega (arith, snoc-size (w .state .lines) (line w), w .state .size)
 
@@ -106,17 +107,17 @@ module _ {r : Re} (d : Numbered 0 r) {t₀ : List ℕ} where
               let L = w .state .lines in
               let u = line w in
               let old : standing r (at (L ++ (u ∷ [])) q) ≡ standing r (at L q) = ap (standing r) (snoc-old L u q here) in
-              let new-record : recordOf (standing r) (L ++ (u ∷ [])) u ≡ recordBytes (standing r u) q c = record-is r (search-records r d grown) (at L q) c q (omega (arith, here, snoc-size L u)) old in
-              let size : length (records (standing r) L) ≡ 64 * n = records-size r L L ∙ ap (λ k. 64 * k) (w .state .size) in
-              let space : length (records (standing r) L) + length (recordBytes (standing r u) q c) ≤ length t₀ = omega (arith, size, record-64 (standing r u) q c, slots-fit (length t₀), room) in
+              let new-record : recordOf (formOf r) (standing r) (L ++ (u ∷ [])) u ≡ recordBytes (formOf r) (standing r u) q c = record-is (formOf r) r (search-records r d grown) (at L q) c q (omega (arith, here, snoc-size L u)) old in
+              let size : length (records (formOf r) (standing r) L) ≡ formOf r .bytes * n = records-size (formOf r) r L L ∙ ap (λ k. formOf r .bytes * k) (w .state .size) in
+              let space : length (records (formOf r) (standing r) L) + length (recordBytes (formOf r) (standing r u) q c) ≤ length t₀ = omega (arith, size, record-size (formOf r) (standing r u) q c, slots-fit (formOf r) (length t₀) (suc n) room, mul-suc (formOf r .bytes) n) in
               record {
                 fits = omega (arith, longer, room);
                 table =
                     stored
-                    ∙ ap₂ (λ a k. sets a k (recordBytes (standing r u) q c)) (w .state .holds .table) (sym size)
-                    ∙ sym (onto-more t₀ (records (standing r) L) (recordBytes (standing r u) q c) space)
-                    ∙ ap (λ x. onto t₀ (records (standing r) L ++ x)) (sym new-record)
-                    ∙ ap (onto t₀) (sym (records-add r u (search-records r d (w .state .search))));
+                    ∙ ap₂ (λ a k. sets a k (recordBytes (formOf r) (standing r u) q c)) (w .state .holds .table) (sym size)
+                    ∙ sym (onto-more t₀ (records (formOf r) (standing r) L) (recordBytes (formOf r) (standing r u) q c) space)
+                    ∙ ap (λ x. onto t₀ (records (formOf r) (standing r) L ++ x)) (sym new-record)
+                    ∙ ap (onto t₀) (sym (records-add (formOf r) r u (search-records r d (w .state .search))));
               }
 
           -- A new record, no witness's,
@@ -137,7 +138,7 @@ module _ {r : Re} (d : Numbered 0 r) {t₀ : List ℕ} where
           }
 
           -- or a witness's.
-          pub witness-turn : T (isWitness (standing r (line w))) → WitnessFound r t₀ (suc n) t′ × Takes r (slots (length t₀)) (more y n)
+          pub witness-turn : T (isWitness (standing r (line w))) → WitnessFound r t₀ (suc n) t′ × Takes r (slots (formOf r) (length t₀)) (more y n)
           witness-turn h = (
             record {
               lines = w .state .lines;
@@ -150,7 +151,7 @@ module _ {r : Re} (d : Numbered 0 r) {t₀ : List ℕ} where
               c = suc c;
               search = grown;
             },
-            takes-witness r (slots (length t₀)) (w .state .lines) q c here byte lowest unmet (omega (arith, w .state .size)) (record { records = search-records r d grown; none = w .state .none; witness = h }) (w .state .tallied) last,
+            takes-witness r (slots (formOf r) (length t₀)) (w .state .lines) q c here byte lowest unmet (omega (arith, w .state .size)) (record { records = search-records r d grown; none = w .state .none; witness = h }) (w .state .tallied) last,
           )
 
   -- Record q is carried on by all bytes.
@@ -167,10 +168,10 @@ module _ {r : Re} (d : Numbered 0 r) {t₀ : List ℕ} where
       }
 
   -- All records are.
-  pub all-found : {n : ℕ} {y : Looking} {t : List ℕ} → 0 < slots (length t₀) → Searching r t₀ n 0 n y t → AllFound r t₀ n t × Takes r (slots (length t₀)) y
+  pub all-found : {n : ℕ} {y : Looking} {t : List ℕ} → 0 < slots (formOf r) (length t₀) → Searching r t₀ n 0 n y t → AllFound r t₀ n t × Takes r (slots (formOf r) (length t₀)) y
   all-found {n} {y} h x = (
     record { lines = x .lines; size = x .size; holds = x .holds; alike = alike },
-    takes-all r (slots (length t₀)) h (x .holds .fits) alike (subst (λ k. Tallied r (lookedSoFar r (x .lines) k 0) (x .lines) y) (sym (x .size)) (x .tallied)),
+    takes-all r (slots (formOf r) (length t₀)) h (x .holds .fits) alike (subst (λ k. Tallied r (lookedSoFar r (x .lines) k 0) (x .lines) y) (sym (x .size)) (x .tallied)),
   )
     where
       alike : Alike (standing r) (x .lines)
@@ -181,7 +182,7 @@ module _ {r : Re} (d : Numbered 0 r) {t₀ : List ℕ} where
       }
 
 -- The empty line's record stands in slot 0,
-pub first-record : (r : Re) {t₀ t : List ℕ} → 0 < slots (length t₀) → t ≡ sets t₀ 0 (recordBytes (standing r []) 0 0) → Searching r t₀ 0 0 1 (record { looks = 0; comparisons = 0 }) t
+pub first-record : (r : Re) {t₀ t : List ℕ} → 0 < slots (formOf r) (length t₀) → t ≡ sets t₀ 0 (recordBytes (formOf r) (standing r []) 0 0) → Searching r t₀ 0 0 1 (record { looks = 0; comparisons = 0 }) t
 first-record r {t₀} h e = record {
   lines = [] ∷ [];
   size = refl;
@@ -192,7 +193,7 @@ first-record r {t₀} h e = record {
 }
 
 -- if there is one.
-pub no-slot : (r : Re) {t₀ : List ℕ} → Numbered 0 r → slots (length t₀) ≡ 0 → SlotsFull r t₀ t₀ × Takes r (slots (length t₀)) (record { looks = 0; comparisons = 0 })
+pub no-slot : (r : Re) {t₀ : List ℕ} → Numbered 0 r → slots (formOf r) (length t₀) ≡ 0 → SlotsFull r t₀ t₀ × Takes r (slots (formOf r) (length t₀)) (record { looks = 0; comparisons = 0 })
 no-slot r {t₀} d h = (
   record {
     lines = [];
@@ -204,5 +205,5 @@ no-slot r {t₀} d h = (
       more = ([], tt, λ k l. absurd (omega arith));
     };
   },
-  takes-nothing r (slots (length t₀)) d h (subst (λ W. Tallied r W ([] ∷ []) (record { looks = 0; comparisons = 0 })) (so-far-none r ([] ∷ [])) (tally-begin r)),
+  takes-nothing r (slots (formOf r) (length t₀)) d h (subst (λ W. Tallied r W ([] ∷ []) (record { looks = 0; comparisons = 0 })) (so-far-none r ([] ∷ [])) (tally-begin r)),
 )

@@ -14,7 +14,7 @@ use Rattle.theory.specs.Records.{at}
 use Rattle.theory.proofs.Tests.{T-true, either}
 use Rattle.theory.proofs.Search.{trace-place}
 use Rattle.theory.proofs.Records.{carries}
-use Rattle.verdict.specs.Table.{slots}
+use Rattle.verdict.specs.Record.{formOf}
 use Rattle.standing.specs.declared.Standing.{Standing}
 use Rattle.standing.specs.Stands.{Arrays, Lent}
 use Rattle.groups.specs.Numbers.{shares, isLowest, lowestBytes, groupsBy, groupsOf}
@@ -22,7 +22,8 @@ use Rattle.groups.specs.Turns.{same}
 use Rattle.groups.proofs.Numbers.{lower-one, lowest-byte, edge, edge-below, between, shares-is}
 use Rattle.groups.proofs.Laws.{mask-groups}
 use Rattle.records.specs.Packing.{Unpacked}
-use Rattle.table.specs.Slots.{loaded}
+use Rattle.verdict.specs.Code.Held.{held}
+use Rattle.table.specs.Slots.{slotCount, loaded}
 use Rattle.table.proofs.Laws.{slot-there}
 use Rattle.search.specs.declared.Progress.{Progress}
 use Rattle.search.specs.declared.Progress.the-variants.{Clear, Witness, Full}
@@ -30,9 +31,9 @@ use Rattle.search.specs.declared.Looking.{Looking}
 use Rattle.search.specs.declared.Course.{Course}
 use Rattle.search.specs.Looking.{Takes}
 use Rattle.search.specs.Ends.{AllFound}
-use Rattle.search.specs.Turns.{Searching, Working, Within, Grouping, CameTo, Turned, Worked, Run}
+use Rattle.search.specs.Turns.{Searching, Working, Slotted, Within, Grouping, CameTo, Turned, Worked, Run}
 use Rattle.search.proofs.Progress.{the-type}
-use Rattle.search.proofs.Looks.{slot-inside, slot-record}
+use Rattle.search.proofs.Looks.{all-inside, slot-record}
 use Rattle.search.proofs.Turns.{passed-turn, next-record, all-found}
 
 -- What is told where an answer is neither of the other cases.
@@ -96,42 +97,43 @@ module _ {r : Re} {a : Arrays} (l : Lent r a) {low : List ℕ} {count : ℕ} (kn
   group-lowest j h = ap (λ z. getD z j 0) (known .0 ∙ ap (λ g. g .lowest) pattern-groups) ∙ List·getD-append (lowestBytes (shares r)) _ 0 j (omega (arith, group-count))
 
 -- Record q is carried on by the first j of the lowest bytes, and so by all bytes before the next; the table, t₁ before, has k records, and the looking, y₁ before, is y.
-pub record AtGroup (a : Arrays) (low : List ℕ) (count q n m : ℕ) (y₁ : Looking) (t₁ : List ℕ) (s : Standing) (j k : ℕ) (y : Looking) (t : List ℕ) : Type 0 where
+pub record AtGroup (a : Arrays) (low : List ℕ) (count q n w m : ℕ) (y₁ : Looking) (t₁ : List ℕ) (s : Standing) (j k : ℕ) (y : Looking) (t : List ℕ) : Type 0 where
   pub groups : j ≤ count
   pub size : length t ≡ length t₁
   pub within : n ≤ m → k ≤ m
-  pub works : Grouping (a .masks) low count → {r : Re} {t₀ : List ℕ} → Lent r a → m ≡ slots (length t₀) → q < n → Searching r t₀ q 0 n y₁ t₁ → Working r t₀ s q (edge (shares r) j) k y t
+  pub works : Grouping (a .masks) low count → {r : Re} {t₀ : List ℕ} → Lent r a → Slotted r t₀ w m → q < n → Searching r t₀ q 0 n y₁ t₁ → Working r t₀ s q (edge (shares r) j) k y t
 
 -- The records before q are carried on; the table, t₁ with record 0, has k records, and the looking is y.
-pub record AtRecord (a : Arrays) (known : Type 0) (m : ℕ) (t₁ : List ℕ) (q k : ℕ) (y : Looking) (t : List ℕ) : Type 0 where
+pub record AtRecord (a : Arrays) (known : Type 0) (w m : ℕ) (t₁ : List ℕ) (q k : ℕ) (y : Looking) (t : List ℕ) : Type 0 where
   pub slot : 0 < m
   pub size : length t ≡ length t₁
   pub within : k ≤ m
-  pub found : known → {r : Re} {t₀ : List ℕ} → Lent r a → m ≡ slots (length t₀) → Searching r t₀ 0 0 1 (record { looks = 0; comparisons = 0 }) t₁ → Searching r t₀ q 0 k y t
+  pub found : known → {r : Re} {t₀ : List ℕ} → Lent r a → Slotted r t₀ w m → Searching r t₀ 0 0 1 (record { looks = 0; comparisons = 0 }) t₁ → Searching r t₀ q 0 k y t
 
 module _ {a : Arrays} where
-  module _ {low : List ℕ} {count q n m : ℕ} {y₁ : Looking} {t₁ : List ℕ} where
-    pub group-start : {s : Standing} → Unpacked (loaded t₁ q) s → AtGroup a low count q n m y₁ t₁ s 0 n y₁ t₁
+  module _ {low : List ℕ} {count q n w m : ℕ} {y₁ : Looking} {t₁ : List ℕ} where
+    pub group-start : {s : Standing} → Unpacked (loaded w t₁ q) s → AtGroup a low count q n w m y₁ t₁ s 0 n y₁ t₁
     group-start u = record {
       groups = omega arith;
       size = refl;
       within = λ g. g;
       works = λ known {r} l e i x.
           let here : q < length (x .lines) = omega (arith, x .size) in
-          let is = slot-there t₁ q _ _ (slot-inside r (x .holds) q here) ∙ slot-record r (x .holds) q here in
+          let there : q < slotCount (formOf r .bytes) (length t₁) = omega (arith, all-inside r (x .holds) (l .most)) in
+          let is = ap (λ z. loaded z t₁ q) (e .width) ∙ slot-there (formOf r .bytes) t₁ q _ _ there ∙ ap held (slot-record r (x .holds) q here) in
           record { state = x; inside = i; stands = u .stands (at (x .lines) q) _ _ (l .numbered) (l .most) is };
     }
 
     -- The next of the lowest bytes is tried.
-    module _ {s : Standing} {j k : ℕ} {y : Looking} {t t′ : List ℕ} {x : Course} (h : j < count) (b : AtGroup a low count q n m y₁ t₁ s j k y t) (turned : Turned a s q (getD low j 0) k m y t x t′) where
-      tried : Grouping (a .masks) low count → {r : Re} {t₀ : List ℕ} → Lent r a → m ≡ slots (length t₀) → q < n → Searching r t₀ q 0 n y₁ t₁
+    module _ {s : Standing} {j k : ℕ} {y : Looking} {t t′ : List ℕ} {x : Course} (h : j < count) (b : AtGroup a low count q n w m y₁ t₁ s j k y t) (turned : Turned a s q (getD low j 0) k w m y t x t′) where
+      tried : Grouping (a .masks) low count → {r : Re} {t₀ : List ℕ} → Lent r a → Slotted r t₀ w m → q < n → Searching r t₀ q 0 n y₁ t₁
           → CameTo r t₀ t′ (x .looking) (λ z. Working r t₀ s q (edge (shares r) (suc j)) z (x .looking) t′) (x .progress)
       tried known {r} l f i z =
           let there : j < length (lowestBytes (shares r)) = omega (arith, group-count l known) in
           let (byte, lowest) = lowest-byte (shares r) j there in
-          subst (λ c. Turned a s q c k m y t x t′) (group-lowest l known j h) turned .leads l f byte (T-true _ lowest) (to-lowest (l .numbered) j there (b .works known l f i z))
+          subst (λ c. Turned a s q c k w m y t x t′) (group-lowest l known j h) turned .leads l f byte (T-true _ lowest) (to-lowest (l .numbered) j there (b .works known l f i z))
 
-      pub group-step : {o : ℕ} → length t′ ≡ length t → x .progress ≡ Clear o → AtGroup a low count q n m y₁ t₁ s (j + 1) o (x .looking) t′
+      pub group-step : {o : ℕ} → length t′ ≡ length t → x .progress ≡ Clear o → AtGroup a low count q n w m y₁ t₁ s (j + 1) o (x .looking) t′
       group-step {o} g e =
           let more : suc j ≡ j + 1 = omega arith in
           record {
@@ -144,25 +146,25 @@ module _ {a : Arrays} where
           }
 
       -- The search ends within the record,
-      pub group-stop : ((o : ℕ) → x .progress ≡ Clear o → ⊥) → Worked (Grouping (a .masks) low count) a q n m y₁ t₁ x t′
+      pub group-stop : ((o : ℕ) → x .progress ≡ Clear o → ⊥) → Worked (Grouping (a .masks) low count) a q n w m y₁ t₁ x t′
       group-stop other = record {
         within = stopped-within m n other;
         leads = λ u {r} {t₀} l f i z. stopped r t₀ t′ (x .looking) _ _ other (tried u l f i z);
       }
 
     -- or goes through all its groups.
-    pub group-end : {s : Standing} {j k : ℕ} {y : Looking} {t : List ℕ} → count ≤ j → AtGroup a low count q n m y₁ t₁ s j k y t → Worked (Grouping (a .masks) low count) a q n m y₁ t₁ (record { progress = Clear k; looking = y }) t
+    pub group-end : {s : Standing} {j k : ℕ} {y : Looking} {t : List ℕ} → count ≤ j → AtGroup a low count q n w m y₁ t₁ s j k y t → Worked (Grouping (a .masks) low count) a q n w m y₁ t₁ (record { progress = Clear k; looking = y }) t
     group-end {j = j} h b = record {
       within = b .within;
       leads = λ known l f i z. next-record (l .numbered) (to-end (l .numbered) j (omega (arith, b .groups, group-count l known)) (b .works known l f i z));
     }
 
-  module _ {known : Type 0} {m : ℕ} {t₁ : List ℕ} where
-    pub record-start : 0 < m → AtRecord a known m t₁ 0 1 (record { looks = 0; comparisons = 0 }) t₁
+  module _ {known : Type 0} {w m : ℕ} {t₁ : List ℕ} where
+    pub record-start : 0 < m → AtRecord a known w m t₁ 0 1 (record { looks = 0; comparisons = 0 }) t₁
     record-start h = record { slot = h; size = refl; within = h; found = λ u l e x. x }
 
-    module _ {q k : ℕ} {y : Looking} {t t′ : List ℕ} {x : Course} (h : q < k) (b : AtRecord a known m t₁ q k y t) (worked : Worked known a q k m y t x t′) where
-      pub record-step : {j : ℕ} → length t′ ≡ length t → x .progress ≡ Clear j → AtRecord a known m t₁ (q + 1) j (x .looking) t′
+    module _ {q k : ℕ} {y : Looking} {t t′ : List ℕ} {x : Course} (h : q < k) (b : AtRecord a known w m t₁ q k y t) (worked : Worked known a q k w m y t x t′) where
+      pub record-step : {j : ℕ} → length t′ ≡ length t → x .progress ≡ Clear j → AtRecord a known w m t₁ (q + 1) j (x .looking) t′
       record-step {j} i e =
           let more : suc q ≡ q + 1 = omega arith in
           record {
@@ -174,14 +176,14 @@ module _ {a : Arrays} where
                 (subst (CameTo r t₀ t′ (x .looking) (λ z. Searching r t₀ (suc q) 0 z (x .looking) t′)) e (worked .leads u l f h (b .found u l f z)));
           }
 
-      pub record-stop : ((j : ℕ) → x .progress ≡ Clear j → ⊥) → Run known a m t₁ x t′
+      pub record-stop : ((j : ℕ) → x .progress ≡ Clear j → ⊥) → Run known a w m t₁ x t′
       record-stop other = record { leads = λ u {r} {t₀} l f z. stopped r t₀ t′ (x .looking) _ _ other (worked .leads u l f h (b .found u l f z)) }
 
-    pub record-end : {q k : ℕ} {y : Looking} {t : List ℕ} → k ≤ q → AtRecord a known m t₁ q k y t → Run known a m t₁ (record { progress = Clear k; looking = y }) t
+    pub record-end : {q k : ℕ} {y : Looking} {t : List ℕ} → k ≤ q → AtRecord a known w m t₁ q k y t → Run known a w m t₁ (record { progress = Clear k; looking = y }) t
     record-end {q} {k} {y} {t} h b = record { leads = λ u l f z. go l f (b .found u l f z) }
       where
-        go : {r : Re} {t₀ : List ℕ} → Lent r a → m ≡ slots (length t₀) → Searching r t₀ q 0 k y t → AllFound r t₀ k t × Takes r m y
+        go : {r : Re} {t₀ : List ℕ} → Lent r a → Slotted r t₀ w m → Searching r t₀ q 0 k y t → AllFound r t₀ k t × Takes r m y
         go {r} {t₀} l f x =
             let last : q ≡ k = either (λ i. absurd (omega (arith, x .size))) (λ i. i .0 ∙ x .size) (trace-place (standing r) (carries r (l .numbered)) 256 (x .search)) in
-            let (found, taken) = all-found (l .numbered) (omega (arith, b .slot)) (subst (λ z. Searching r t₀ z 0 k y t) last x) in
-            (found, subst (λ k. Takes r k y) (sym f) taken)
+            let (found, taken) = all-found (l .numbered) (omega (arith, b .slot, f .number)) (subst (λ z. Searching r t₀ z 0 k y t) last x) in
+            (found, subst (λ k. Takes r k y) (sym (f .number)) taken)

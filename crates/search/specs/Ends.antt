@@ -9,6 +9,7 @@ use Rattle.theory.specs.Pattern.{Re}
 use Rattle.theory.specs.Standing.{standing, isWitness}
 use Rattle.theory.specs.Records.{NoWitness, Alike}
 use Rattle.theory.specs.Code.Search.{Search, Full}
+use Rattle.verdict.specs.Record.{formOf}
 use Rattle.verdict.specs.Table.{records, slots, onto}
 use Rattle.standing.specs.Stands.{Arrays, Lent}
 use Rattle.search.specs.declared.Progress.{Progress}
@@ -18,8 +19,8 @@ use Rattle.search.specs.Looking.{Takes}
 
 -- The table t, once t₀, holds the records of the lines L.
 pub record HoldsRecords (r : Re) (t₀ : List ℕ) (L : List (List ℕ)) (t : List ℕ) : Type 0 where
-  pub fits : length L ≤ slots (length t₀)
-  pub table : t ≡ onto t₀ (records (standing r) L)
+  pub fits : length L ≤ slots (formOf r) (length t₀)
+  pub table : t ≡ onto t₀ (records (formOf r) (standing r) L)
 
 -- All records, n of them, and none a witness's.
 pub record AllFound (r : Re) (t₀ : List ℕ) (n : ℕ) (t : List ℕ) : Type 0 where
@@ -43,7 +44,7 @@ pub record WitnessFound (r : Re) (t₀ : List ℕ) (n : ℕ) (t : List ℕ) : Ty
 -- As many records as there are slots, none a witness's, and there are more.
 pub record SlotsFull (r : Re) (t₀ t : List ℕ) : Type 0 where
   pub lines : List (List ℕ)
-  pub size : length lines ≡ slots (length t₀)
+  pub size : length lines ≡ slots (formOf r) (length t₀)
   pub holds : HoldsRecords r t₀ lines t
   pub full : Full r lines
 
@@ -53,7 +54,7 @@ Reached r t₀ t P (Progress.Clear n) = P n
 Reached r t₀ t P (Progress.Witness n) = WitnessFound r t₀ n t
 Reached r t₀ t P Progress.Full = SlotsFull r t₀ t
 
--- The search of the pattern whose arrays are lent, from the table t₀ to the table t, and the looking that it takes.
-pub record Searched (a : Arrays) (t₀ : List ℕ) (x : Course) (t : List ℕ) : Type 0 where
-  pub ends : {r : Re} → Lent r a → Reached r t₀ t (λ n. AllFound r t₀ n t) (x .progress)
-  pub looking : {r : Re} → Lent r a → Takes r (slots (length t₀)) (x .looking)
+-- The search of the pattern whose arrays are lent and whose records have w bytes, from the table t₀ to the table t, and the looking that it takes.
+pub record Searched (a : Arrays) (w : ℕ) (t₀ : List ℕ) (x : Course) (t : List ℕ) : Type 0 where
+  pub ends : {r : Re} → Lent r a → w ≡ formOf r .bytes → Reached r t₀ t (λ n. AllFound r t₀ n t) (x .progress)
+  pub looking : {r : Re} → Lent r a → w ≡ formOf r .bytes → Takes r (slots (formOf r) (length t₀)) (x .looking)

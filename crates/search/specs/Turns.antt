@@ -10,6 +10,7 @@ use Rattle.theory.specs.Pattern.{Re}
 use Rattle.theory.specs.Standing.{standing}
 use Rattle.theory.specs.Records.{at, NoWitness}
 use Rattle.theory.specs.Code.Search.{Search}
+use Rattle.verdict.specs.Record.{formOf}
 use Rattle.verdict.specs.Table.{slots}
 use Rattle.standing.specs.declared.Standing.{Standing}
 use Rattle.standing.specs.Stands.{Arrays, Lent, Stands}
@@ -54,6 +55,11 @@ pub record Working (r : Re) (t₀ : List ℕ) (s : Standing) (q c n : ℕ) (y : 
   pub inside : q < n
   pub stands : Stands r s (standing r (at (state .lines) q))
 
+-- The table t₀ has m slots for the records of r, which have w bytes.
+pub record Slotted (r : Re) (t₀ : List ℕ) (w m : ℕ) : Type 0 where
+  pub width : w ≡ formOf r .bytes
+  pub number : m ≡ slots (formOf r) (length t₀)
+
 -- The records without a witness stay within the slots.
 abbrev pub Within : ℕ → ℕ → Progress → Type 0
 Within m n (Progress.Clear k) = n ≤ m → k ≤ m
@@ -67,22 +73,22 @@ Grouping masks lowest count = (lowest ≡ groupsBy (same masks) .lowest) × (cou
 -- How far the search came with the looking y, where P says what holds of n records without a witness.
 abbrev pub CameTo : Re → List ℕ → List ℕ → Looking → (ℕ → Type 0) → Progress → Type 0
 CameTo r t₀ t y P (Progress.Clear n) = P n
-CameTo r t₀ t y P (Progress.Witness n) = WitnessFound r t₀ n t × Takes r (slots (length t₀)) y
-CameTo r t₀ t y P Progress.Full = SlotsFull r t₀ t × Takes r (slots (length t₀)) y
+CameTo r t₀ t y P (Progress.Witness n) = WitnessFound r t₀ n t × Takes r (slots (formOf r) (length t₀)) y
+CameTo r t₀ t y P Progress.Full = SlotsFull r t₀ t × Takes r (slots (formOf r) (length t₀)) y
 
 -- What the byte c, the lowest of its group, leads to from record q.
-pub record Turned (a : Arrays) (s : Standing) (q c n m : ℕ) (y : Looking) (t : List ℕ) (x : Course) (t′ : List ℕ) : Type 0 where
+pub record Turned (a : Arrays) (s : Standing) (q c n w m : ℕ) (y : Looking) (t : List ℕ) (x : Course) (t′ : List ℕ) : Type 0 where
   pub within : Within m n (x .progress)
-  pub leads : {r : Re} {t₀ : List ℕ} → Lent r a → m ≡ slots (length t₀) → c < 256 → isLowest (shares r) c ≡ true → Working r t₀ s q c n y t
+  pub leads : {r : Re} {t₀ : List ℕ} → Lent r a → Slotted r t₀ w m → c < 256 → isLowest (shares r) c ≡ true → Working r t₀ s q c n y t
       → CameTo r t₀ t′ (x .looking) (λ k. Working r t₀ s q (suc c) k (x .looking) t′) (x .progress)
 
 -- What all bytes lead to from record q, by what is known of the groups.
-pub record Worked (known : Type 0) (a : Arrays) (q n m : ℕ) (y : Looking) (t : List ℕ) (x : Course) (t′ : List ℕ) : Type 0 where
+pub record Worked (known : Type 0) (a : Arrays) (q n w m : ℕ) (y : Looking) (t : List ℕ) (x : Course) (t′ : List ℕ) : Type 0 where
   pub within : Within m n (x .progress)
-  pub leads : known → {r : Re} {t₀ : List ℕ} → Lent r a → m ≡ slots (length t₀) → q < n → Searching r t₀ q 0 n y t
+  pub leads : known → {r : Re} {t₀ : List ℕ} → Lent r a → Slotted r t₀ w m → q < n → Searching r t₀ q 0 n y t
       → CameTo r t₀ t′ (x .looking) (λ k. Searching r t₀ (suc q) 0 k (x .looking) t′) (x .progress)
 
 -- What is found from record 0 on.
-pub record Run (known : Type 0) (a : Arrays) (m : ℕ) (t : List ℕ) (x : Course) (t′ : List ℕ) : Type 0 where
-  pub leads : known → {r : Re} {t₀ : List ℕ} → Lent r a → m ≡ slots (length t₀) → Searching r t₀ 0 0 1 (record { looks = 0; comparisons = 0 }) t
+pub record Run (known : Type 0) (a : Arrays) (w m : ℕ) (t : List ℕ) (x : Course) (t′ : List ℕ) : Type 0 where
+  pub leads : known → {r : Re} {t₀ : List ℕ} → Lent r a → Slotted r t₀ w m → Searching r t₀ 0 0 1 (record { looks = 0; comparisons = 0 }) t
       → CameTo r t₀ t′ (x .looking) (λ n. AllFound r t₀ n t′ × Takes r m (x .looking)) (x .progress)

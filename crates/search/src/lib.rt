@@ -2,8 +2,8 @@
 // It ends when no record is left, at the first witness, or when a record is needed and no slot is left.
 ghost use mathlib.Core.Path.{_≡_};
 ghost use mathlib.Core.Bool.{not, _&&_, cond};
-ghost use Prim.Native.Nat.{_+_, _≤_, _<_};
-ghost use Rattle.verdict.specs.Table.{slots};
+ghost use Prim.Native.Nat.{_+_, _≤_, _<_, min};
+ghost use Rattle.table.specs.Slots.{slotCount};
 ghost use Rattle.standing.specs.Stands.{arrays};
 ghost use Rattle.search.specs.declared.Progress.the-variants.{Clear, Witness};
 ghost use Rattle.search.specs.Ends.{Searched};
@@ -33,10 +33,11 @@ pub struct Course {
     pub looking: Looking,
 }
 
-fn slots_of(len: usize) -> usize
-    ensures { λ r. ⌜ (r ≡ slots len) × (r ≤ 65535) ⌝ }
+// How many records of that width `len` bytes have slots for: at most 65,535.
+fn slots_of(len: usize, width: usize) -> usize
+    ensures { λ r. ⌜ (r ≡ min (slotCount width len) 65535) × (r ≤ 65535) ⌝ }
 {
-    words::least(len / 64, 65535)
+    words::least(table::slots(len, width), 65535)
 }
 
 // (d) without (b).
@@ -76,13 +77,14 @@ fn entered(n: usize, witness: bool) -> Progress
     Progress::Clear(n)
 }
 
-// Record q, whose standing is s, carried on by the byte c. The table has n records, and so many slots.
+// Record q, whose standing is s, carried on by the byte c. The table has n records of that width, and so many slots.
 fn carry<'a>(
     table: &mut [u8],
     s: Standing,
     q: usize,
     c: u8,
     n: usize,
+    width: usize,
     slots: usize,
     looking: Looking,
     masks: &'a [u64; 256],
@@ -91,11 +93,11 @@ fn carry<'a>(
     sets: &'a [u64; 65],
     ends: &'a [u8; 65],
 ) -> Course
-    ensures { λ r. ⌜ Turned (arrays (now (masks .entry)) (now (rows .entry)) (now (lens .entry)) (now (sets .entry)) (now (ends .entry))) s q c n slots looking (now (table .entry)) r (now (table .exit)) ⌝ }
+    ensures { λ r. ⌜ Turned (arrays (now (masks .entry)) (now (rows .entry)) (now (lens .entry)) (now (sets .entry)) (now (ends .entry))) s q c n width slots looking (now (table .entry)) r (now (table .exit)) ⌝ }
 {
     let after = s.next(c, masks, rows, lens, sets, ends);
     let v = records::pack(after, q, c);
-    let look = table::find(table, n, &v);
+    let look = table::find(table, width, n, &v);
     let looking = one_more(looking, look.compared);
     if look.found {
         return Course {
@@ -109,7 +111,7 @@ fn carry<'a>(
             looking,
         };
     }
-    table::store(table, n, &v);
+    table::store(table, width, n, &v);
     let witness = is_witness(after.first, after.some);
     Course {
         progress: entered(n + 1, witness),
@@ -122,6 +124,7 @@ fn work<'a>(
     table: &mut [u8],
     q: usize,
     n: usize,
+    width: usize,
     slots: usize,
     looking: Looking,
     lowest: &'a [u8; 256],
@@ -133,9 +136,9 @@ fn work<'a>(
     ends: &'a [u8; 65],
 ) -> Course
     requires { ⌜ count ≤ 256 ⌝ }
-    ensures { λ r. ⌜ Worked (Grouping (now (masks .entry)) (now (lowest .entry)) count) (arrays (now (masks .entry)) (now (rows .entry)) (now (lens .entry)) (now (sets .entry)) (now (ends .entry))) q n slots looking (now (table .entry)) r (now (table .exit)) ⌝ }
+    ensures { λ r. ⌜ Worked (Grouping (now (masks .entry)) (now (lowest .entry)) count) (arrays (now (masks .entry)) (now (rows .entry)) (now (lens .entry)) (now (sets .entry)) (now (ends .entry))) q n width slots looking (now (table .entry)) r (now (table .exit)) ⌝ }
 {
-    let s = records::unpack(table::load(table, q));
+    let s = records::unpack(table::load(table, width, q));
     let mut n = n;
     let mut looking = looking;
     let mut k = 0;
@@ -146,6 +149,7 @@ fn work<'a>(
             q,
             lowest[k],
             n,
+            width,
             slots,
             looking,
             masks,
@@ -171,6 +175,7 @@ fn work<'a>(
 // From record 0 on, each record in turn.
 fn run<'a>(
     table: &mut [u8],
+    width: usize,
     slots: usize,
     lowest: &'a [u8; 256],
     count: usize,
@@ -181,7 +186,7 @@ fn run<'a>(
     ends: &'a [u8; 65],
 ) -> Course
     requires { ⌜ (0 < slots) × (slots ≤ 65535) × (count ≤ 256) ⌝ }
-    ensures { λ r. ⌜ Run (Grouping (now (masks .entry)) (now (lowest .entry)) count) (arrays (now (masks .entry)) (now (rows .entry)) (now (lens .entry)) (now (sets .entry)) (now (ends .entry))) slots (now (table .entry)) r (now (table .exit)) ⌝ }
+    ensures { λ r. ⌜ Run (Grouping (now (masks .entry)) (now (lowest .entry)) count) (arrays (now (masks .entry)) (now (rows .entry)) (now (lens .entry)) (now (sets .entry)) (now (ends .entry))) width slots (now (table .entry)) r (now (table .exit)) ⌝ }
 {
     let mut n = 1;
     let mut looking = Looking {
@@ -194,6 +199,7 @@ fn run<'a>(
             table,
             q,
             n,
+            width,
             slots,
             looking,
             lowest,
@@ -218,18 +224,19 @@ fn run<'a>(
     }
 }
 
-// Searches the standings of the pattern whose masks and follow tables are lent. Slots that are not needed, and bytes after the last slot, are kept.
+// Searches the standings of the pattern whose masks and follow tables are lent, and whose records have that width. Slots that are not needed, and bytes after the last slot, are kept.
 pub fn search<'a>(
     table: &mut [u8],
+    width: usize,
     masks: &'a [u64; 256],
     rows: &'a [u8; 4225],
     lens: &'a [u8; 65],
     sets: &'a [u64; 65],
     ends: &'a [u8; 65],
 ) -> Course
-    ensures searched { λ r. ⌜ Searched (arrays (now (masks .entry)) (now (rows .entry)) (now (lens .entry)) (now (sets .entry)) (now (ends .entry))) (now (table .entry)) r (now (table .exit)) ⌝ }
+    ensures searched { λ r. ⌜ Searched (arrays (now (masks .entry)) (now (rows .entry)) (now (lens .entry)) (now (sets .entry)) (now (ends .entry))) width (now (table .entry)) r (now (table .exit)) ⌝ }
 {
-    let slots = slots_of(table.len());
+    let slots = slots_of(table.len(), width);
     if slots == 0 {
         return Course {
             progress: Progress::Full,
@@ -243,9 +250,10 @@ pub fn search<'a>(
     let lowest = g.lowest;
     let s = Standing::initial(masks, rows, lens, sets, ends);
     let v = records::pack(s, 0, 0);
-    table::store(table, 0, &v);
+    table::store(table, width, 0, &v);
     run(
         table,
+        width,
         slots,
         &lowest,
         g.count,

@@ -3,8 +3,8 @@
 use mathlib.Core.Path.{_≡_, refl, sym, ap, ap₂, _∙_, subst}
 use mathlib.Core.Logic.{_⊎_, inl, inr}
 use Prim.Native.Nat.{ℕ, zero, suc, _+_, _-_, _≤_, _<_, min}
-use mathlib.Core.Bool.{true, false, cond}
-use mathlib.Core.List.{List, _++_}
+use mathlib.Core.Bool.{true, false}
+use mathlib.Core.List.{List}
 use native.Mathlib.Omega.{arith}
 use native.Mathlib.Nat.{sub-zero}
 use native.Mathlib.Decide.{ℕ-discrete, decLt}
@@ -82,22 +82,23 @@ module _ (u v : List ℕ) where
         | no e ↦ omega (arith, unequal-here n i e)
       ]
 
-  -- A comparison ends before the origin fields, or after them.
-  pub ends-before : firstUnequal 10 0 u v < 10 → comparisonEnd u v ≡ firstUnequal 10 0 u v
+-- A comparison ends before the origin fields, or after them.
+module _ (w : ℕ) (u v : List ℕ) where
+  pub ends-before : firstUnequal 10 0 u v < 10 → comparisonEnd w u v ≡ firstUnequal 10 0 u v
   unfolding comparisonEnd
   ends-before h = rw (lt-ltb (firstUnequal 10 0 u v) 10 h)
 
-  pub ends-after : 10 ≤ firstUnequal 10 0 u v → comparisonEnd u v ≡ firstUnequal 51 13 u v
+  pub ends-after : 10 ≤ firstUnequal 10 0 u v → comparisonEnd w u v ≡ firstUnequal (w - 13) 13 u v
   unfolding comparisonEnd
   ends-after h = rw (le-ltb (firstUnequal 10 0 u v) 10 h)
 
-module _ (u v : List ℕ) where
+module _ (w : ℕ) (least : 13 ≤ w) (u v : List ℕ) where
   -- A COMPARISON ENDS OUTSIDE THE ORIGIN FIELDS, or finds no unequal byte.
-  pub end-outside : (comparisonEnd u v < 10) ⊎ ((13 ≤ comparisonEnd u v) × (comparisonEnd u v ≤ 64))
+  pub end-outside : (comparisonEnd w u v < 10) ⊎ ((13 ≤ comparisonEnd w u v) × (comparisonEnd w u v ≤ w))
   end-outside =
       elim (decLt (firstUnequal 10 0 u v) 10) [
-        | yes l ↦ inl (omega (arith, ends-before u v l))
-        | no l ↦ inr (omega (arith, ends-after u v (omega arith), unequal-least u v 51 13), omega (arith, ends-after u v (omega arith), unequal-most u v 51 13))
+        | yes l ↦ inl (omega (arith, ends-before w u v l))
+        | no l ↦ inr (omega (arith, ends-after w u v (omega arith), unequal-least u v (w - 13) 13), omega (arith, ends-after w u v (omega arith), unequal-most u v (w - 13) 13))
       ]
 
 -- How many of d places from n on stand up to e.
@@ -112,14 +113,14 @@ places n (suc d) e =
     lt-leb : (a b : ℕ) → b < a → leb a b ≡ false
     lt-leb a b h = not-true (leb a b) λ t. absurd (let k = leb→le a b t in omega arith)
 
--- THE BYTES THAT A COMPARISON LOOKS AT: up to 10 before the origin fields, and up to 51 after them.
-pub bytes-are : (e : ℕ) → bytesCompared e ≡ min 10 (suc e) + min 51 (suc e - 13)
+-- THE BYTES THAT A COMPARISON LOOKS AT: up to 10 before the origin fields, and up to w - 13 after them.
+pub bytes-are : (w e : ℕ) → bytesCompared w e ≡ min 10 (suc e) + min (w - 13) (suc e - 13)
 unfolding bytesCompared
-bytes-are e =
+bytes-are w e =
     let low : length (filter (λ i. leb i e) (from 0 10)) ≡ min 10 (suc e) = places 0 10 e ∙ ap (min 10) (sub-zero (suc e)) in
-    let high : length (filter (λ i. leb i e) (from 13 51)) ≡ min 51 (suc e - 13) = places 13 51 e in
-    ap length (filter-append (λ i. leb i e) (from 0 10) (from 13 51))
-    ∙ length-append (filter (λ i. leb i e) (from 0 10)) (filter (λ i. leb i e) (from 13 51))
+    let high : length (filter (λ i. leb i e) (from 13 (w - 13))) ≡ min (w - 13) (suc e - 13) = places 13 (w - 13) e in
+    ap length (filter-append (λ i. leb i e) (from 0 10) (from 13 (w - 13)))
+    ∙ length-append (filter (λ i. leb i e) (from 0 10)) (filter (λ i. leb i e) (from 13 (w - 13)))
     ∙ ap₂ _+_ low high
 
 module _ (u v x y : List ℕ) where
@@ -139,23 +140,33 @@ module _ (u v x y : List ℕ) where
             )
       ]
 
+module _ (w : ℕ) (u v x y : List ℕ) where
   -- NO OTHER BYTE COUNTS: records that have the same bytes up to the end, outside the origin fields, have the same end.
-  pub end-same : ((j : ℕ) → (j < 10) ⊎ (13 ≤ j) → j ≤ comparisonEnd u v → (getD u j 0 ≡ getD x j 0) × (getD v j 0 ≡ getD y j 0)) → comparisonEnd x y ≡ comparisonEnd u v
+  pub end-same : ((j : ℕ) → (j < 10) ⊎ (13 ≤ j) → j ≤ comparisonEnd w u v → (getD u j 0 ≡ getD x j 0) × (getD v j 0 ≡ getD y j 0)) → comparisonEnd w x y ≡ comparisonEnd w u v
   end-same same =
       elim (decLt (firstUnequal 10 0 u v) 10) [
         | yes l ↦ (
-            let e : comparisonEnd u v ≡ firstUnequal 10 0 u v = ends-before u v l in
-            let low : firstUnequal 10 0 x y ≡ firstUnequal 10 0 u v = run-same 10 0 (λ j h i m. same j (inl (omega arith)) (omega arith)) in
-            ends-before x y (omega arith) ∙ low ∙ sym e
+            let e : comparisonEnd w u v ≡ firstUnequal 10 0 u v = ends-before w u v l in
+            let low : firstUnequal 10 0 x y ≡ firstUnequal 10 0 u v = run-same u v x y 10 0 (λ j h i m. same j (inl (omega arith)) (omega arith)) in
+            ends-before w x y (omega arith) ∙ low ∙ sym e
             )
         | no l ↦ (
-            let e : comparisonEnd u v ≡ firstUnequal 51 13 u v = ends-after u v (omega arith) in
-            let after : 13 ≤ firstUnequal 51 13 u v = unequal-least u v 51 13 in
-            let low : firstUnequal 10 0 x y ≡ firstUnequal 10 0 u v = run-same 10 0 (λ j h i m. same j (inl (omega arith)) (omega arith)) in
-            let high : firstUnequal 51 13 x y ≡ firstUnequal 51 13 u v = run-same 51 13 (λ j h i m. same j (inr h) (omega arith)) in
-            ends-after x y (omega arith) ∙ high ∙ sym e
+            let e : comparisonEnd w u v ≡ firstUnequal (w - 13) 13 u v = ends-after w u v (omega arith) in
+            let after : 13 ≤ firstUnequal (w - 13) 13 u v = unequal-least u v (w - 13) 13 in
+            let low : firstUnequal 10 0 x y ≡ firstUnequal 10 0 u v = run-same u v x y 10 0 (λ j h i m. same j (inl (omega arith)) (omega arith)) in
+            let high : firstUnequal (w - 13) 13 x y ≡ firstUnequal (w - 13) 13 u v = run-same u v x y (w - 13) 13 (λ j h i m. same j (inr h) (omega arith)) in
+            ends-after w x y (omega arith) ∙ high ∙ sym e
             )
       ]
+
+-- Bytes from w on do not count.
+module _ (w : ℕ) (u v : List ℕ) where
+  run-taken : (n i : ℕ) → i + n ≤ w → firstUnequal n i (take w u) (take w v) ≡ firstUnequal n i u v
+  run-taken n i h = run-same u v (take w u) (take w v) n i (λ j k l m. (sym (getD-take w u j 0 (omega arith)), sym (getD-take w v j 0 (omega arith))))
+
+  pub end-taken : 13 ≤ w → comparisonEnd w (take w u) (take w v) ≡ comparisonEnd w u v
+  unfolding comparisonEnd
+  end-taken h = rw (run-taken 10 0 (omega arith), run-taken (w - 13) 13 (omega arith))
 
 -- Parts of two lists are equal if their bytes are.
 getD-slice : (from to : ℕ) (x : List ℕ) (j : ℕ) → from + j < to → getD (slice from to x) j 0 ≡ getD x (from + j) 0
@@ -167,31 +178,31 @@ slice-same from to x y h k e =
     let b : from + j < to = omega (arith, length-slice from to x h) in
     getD-slice from to x j b ∙ e (from + j) (omega arith) b ∙ sym (getD-slice from to y j b)
 
-module _ (u v : List ℕ) where
+module _ (w : ℕ) (least : 13 ≤ w) (u v : List ℕ) where
   -- OF THE SAME STANDING are two records that are equal outside the origin fields,
-  pub equal-same : take 10 u ≡ take 10 v → drop 13 u ≡ drop 13 v → sameStanding u v ≡ true
-  equal-same front back = eq-eqb (comparisonEnd u v) 64 (ends-after u v (omega (arith, low)) ∙ high)
+  pub equal-same : take 10 u ≡ take 10 v → drop 13 u ≡ drop 13 v → sameStanding w u v ≡ true
+  equal-same front back = eq-eqb (comparisonEnd w u v) w (omega (arith, ends-after w u v (omega (arith, low)), high))
     where
       low : firstUnequal 10 0 u v ≡ 10
       low = unequal-none u v 10 0 λ j h l. sym (getD-take 10 u j 0 l) ∙ ap (λ z. getD z j 0) front ∙ getD-take 10 v j 0 l
 
-      high : firstUnequal 51 13 u v ≡ 64
-      high = unequal-none u v 51 13 λ j h l.
+      high : firstUnequal (w - 13) 13 u v ≡ 13 + (w - 13)
+      high = unequal-none u v (w - 13) 13 λ j h l.
           let e : 13 + (j - 13) ≡ j = omega arith in
           rw e at (sym (getD-drop 13 u (j - 13) 0) ∙ ap (λ z. getD z (j - 13) 0) back ∙ getD-drop 13 v (j - 13) 0)
 
   -- AND NO OTHERS.
-  pub same-equal : length u ≡ 64 → length v ≡ 64 → sameStanding u v ≡ true → (take 10 u ≡ take 10 v) × (drop 13 u ≡ drop 13 v)
+  pub same-equal : length u ≡ w → length v ≡ w → sameStanding w u v ≡ true → (take 10 u ≡ take 10 v) × (drop 13 u ≡ drop 13 v)
   same-equal long size e = (
     slice-same 0 10 u v (omega arith) (omega arith) (λ i h l. unequal-before u v 10 0 i h (omega (arith, low))),
-    ap (drop 13) (sym (take-all 64 u (omega arith))) ∙ slice-same 13 64 u v (omega arith) (omega arith) (λ i h l. unequal-before u v 51 13 i h (omega (arith, high))) ∙ ap (drop 13) (take-all 64 v (omega arith)),
+    ap (drop 13) (sym (take-all w u (omega arith))) ∙ slice-same 13 w u v (omega arith) (omega arith) (λ i h l. unequal-before u v (w - 13) 13 i h (omega (arith, high))) ∙ ap (drop 13) (take-all w v (omega arith)),
   )
     where
-      end : comparisonEnd u v ≡ 64
-      end = eqb-true (comparisonEnd u v) 64 e
+      end : comparisonEnd w u v ≡ w
+      end = eqb-true (comparisonEnd w u v) w e
 
       low : 10 ≤ firstUnequal 10 0 u v
-      low = elim (decLt (firstUnequal 10 0 u v) 10) [ yes l ↦ absurd (omega (arith, end, ends-before u v l)) | no l ↦ omega arith ]
+      low = elim (decLt (firstUnequal 10 0 u v) 10) [ yes l ↦ absurd (omega (arith, end, ends-before w u v l)) | no l ↦ omega arith ]
 
-      high : firstUnequal 51 13 u v ≡ 64
-      high = sym (ends-after u v low) ∙ end
+      high : firstUnequal (w - 13) 13 u v ≡ w
+      high = sym (ends-after w u v low) ∙ end

@@ -1,6 +1,6 @@
--- The look through the records of a table, and its comparisons (request 4 of paper 02).
+-- The look through the records of a table, of w bytes each, and its comparisons (request 4 of paper 02).
 -- Assumes nothing.
-use Prim.Native.Nat.{ℕ, zero, suc}
+use Prim.Native.Nat.{ℕ, zero, suc, _-_}
 use mathlib.Core.Bool.{Bool, true, false, cond}
 use mathlib.Core.List.{List, _++_}
 use lib.ListN.{length, getD}
@@ -14,24 +14,24 @@ unfoldable pub firstUnequal : ℕ → ℕ → List ℕ → List ℕ → ℕ
 firstUnequal zero i u v = i
 firstUnequal (suc n) i u v = cond (eqb (getD u i 0) (getD v i 0)) (firstUnequal n (suc i) u v) i
 
--- "A comparison [ends] at the first unequal byte outside the origin fields", which are bytes 10 to 12: the place of that byte. 64 if there is none.
-unfoldable pub comparisonEnd : List ℕ → List ℕ → ℕ
-comparisonEnd u v = cond (ltb (firstUnequal 10 0 u v) 10) (firstUnequal 10 0 u v) (firstUnequal 51 13 u v)
+-- "A comparison [ends] at the first unequal byte outside the origin fields", which are bytes 10 to 12: the place of that byte. w if there is none.
+unfoldable pub comparisonEnd : ℕ → List ℕ → List ℕ → ℕ
+comparisonEnd w u v = cond (ltb (firstUnequal 10 0 u v) 10) (firstUnequal 10 0 u v) (firstUnequal (w - 13) 13 u v)
 
 -- How many bytes of each record a comparison looks at that ends at e: those of the places outside the origin fields, up to e.
-unfoldable pub bytesCompared : ℕ → ℕ
-bytesCompared e = length (filter (λ i. leb i e) (from 0 10 ++ from 13 51))
+unfoldable pub bytesCompared : ℕ → ℕ → ℕ
+bytesCompared w e = length (filter (λ i. leb i e) (from 0 10 ++ from 13 (w - 13)))
 
 -- Two records are "of the same standing": the comparison finds no unequal byte.
-abbrev pub sameStanding : List ℕ → List ℕ → Bool
-sameStanding u v = eqb (comparisonEnd u v) 64
+abbrev pub sameStanding : ℕ → List ℕ → List ℕ → Bool
+sameStanding w u v = eqb (comparisonEnd w u v) w
 
 -- "The look is to go upwards from record 0 and end at the first such record. [It] hands back how many records it compared: the found one's number plus 1, or all of
 -- them if none has the standing." The look for v from record k on, where n are left; its number where none is found is the one that a further record gets.
-unfoldable pub lookFrom : List ℕ → List ℕ → ℕ → ℕ → Look
-lookFrom t v zero k = record { found = false; number = k; compared = k }
-lookFrom t v (suc n) k = cond (sameStanding (slotAt t k) v) (record { found = true; number = k; compared = suc k }) (lookFrom t v n (suc k))
+unfoldable pub lookFrom : ℕ → List ℕ → List ℕ → ℕ → ℕ → Look
+lookFrom w t v zero k = record { found = false; number = k; compared = k }
+lookFrom w t v (suc n) k = cond (sameStanding w (slotAt w t k) v) (record { found = true; number = k; compared = suc k }) (lookFrom w t v n (suc k))
 
 -- The look through n records.
-abbrev pub look : List ℕ → ℕ → List ℕ → Look
-look t n v = lookFrom t v n 0
+abbrev pub look : ℕ → List ℕ → ℕ → List ℕ → Look
+look w t n v = lookFrom w t v n 0

@@ -1,4 +1,4 @@
--- The slots of a table of any length.
+-- The slots of a table of any length, of w bytes each: the width of a record is an argument here, and chosen nowhere.
 -- Assumes nothing.
 use Prim.Native.Nat.{ℕ, _+_, _*_, _/_}
 use mathlib.Core.Bool.{cond}
@@ -6,26 +6,31 @@ use mathlib.Core.List.{List}
 use lib.ListN.{length, getD, take, drop, replicate}
 use lib.Seq.{sets}
 use lib.Dec.{ltb}
+use Rattle.verdict.specs.Code.Held.{held}
+
+-- How many slots n bytes have. A record has at least the 13 bytes before its leaf numbers, and code holds it in 64: for another width there is no slot.
+abbrev pub slotCount : ℕ → ℕ → ℕ
+slotCount w n = cond (ltb w 13) 0 (cond (ltb 64 w) 0 (n / w))
 
 -- The bytes of slot k.
-abbrev pub slotAt : List ℕ → ℕ → List ℕ
-slotAt t k = take 64 (drop (64 * k) t)
+abbrev pub slotAt : ℕ → List ℕ → ℕ → List ℕ
+slotAt w t k = take w (drop (w * k) t)
 
 -- x where the table has a slot k, else y.
-abbrev pub ifSlot : {A : Type 0} → List ℕ → ℕ → A → A → A
-ifSlot t k x y = cond (ltb k (length t / 64)) x y
+abbrev pub ifSlot : {A : Type 0} → ℕ → List ℕ → ℕ → A → A → A
+ifSlot w t k x y = cond (ltb k (slotCount w (length t))) x y
 
--- The table with v in slot k, every other byte kept. Where there is no slot k, all are.
-abbrev pub put : List ℕ → ℕ → List ℕ → List ℕ
-put t k v = ifSlot t k (sets t (64 * k) v) t
+-- The table with the record that v begins with in slot k, every other byte kept. Where there is no slot k, all are.
+abbrev pub put : ℕ → List ℕ → ℕ → List ℕ → List ℕ
+put w t k v = ifSlot w t k (sets t (w * k) (take w v)) t
 
--- What slot k holds. Where there is none: zeros.
-abbrev pub loaded : List ℕ → ℕ → List ℕ
-loaded t k = ifSlot t k (slotAt t k) (replicate 64 0)
+-- What slot k holds, with zeros up to 64 bytes. Where there is none: zeros.
+abbrev pub loaded : ℕ → List ℕ → ℕ → List ℕ
+loaded w t k = ifSlot w t k (held (slotAt w t k)) (replicate 64 0)
 
 -- The origin fields of slot k: the number of a record in bytes 10 and 11, and byte 12.
-abbrev pub originAt : List ℕ → ℕ → ℕ
-originAt t k = ifSlot t k (256 * getD t (64 * k + 10) 0 + getD t (64 * k + 11) 0) 0
+abbrev pub originAt : ℕ → List ℕ → ℕ → ℕ
+originAt w t k = ifSlot w t k (256 * getD t (w * k + 10) 0 + getD t (w * k + 11) 0) 0
 
-abbrev pub byteAt : List ℕ → ℕ → ℕ
-byteAt t k = ifSlot t k (getD t (64 * k + 12) 0) 0
+abbrev pub byteAt : ℕ → List ℕ → ℕ → ℕ
+byteAt w t k = ifSlot w t k (getD t (w * k + 12) 0) 0

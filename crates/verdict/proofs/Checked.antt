@@ -18,6 +18,7 @@ use Rattle.theory.proofs.Tests.{T-true, not-true, either}
 use Rattle.grammar.specs.WriteOut.{writeOut}
 use Rattle.grammar.proofs.Right.{either-way}
 use Rattle.grammar.proofs.Size.{writeOut-numbered}
+use Rattle.verdict.specs.Record.{Form, formOf}
 use Rattle.verdict.specs.Table.{body, recordsOf, records, slots, onto}
 use Rattle.verdict.specs.Checked.{Result, alike, unlike, refused, Whole, whole, Checked, by-reader, by-records}
 use Rattle.verdict.specs.Code.Found.{Found, not-read, same-cuts, first-witness, no-slot, no-room}
@@ -49,9 +50,9 @@ module _ (r : Re) where
               a .fresh j k o (omega arith) (ap (standing r) (sym (old j (omega arith))) ∙ e ∙ ap (standing r) (old k i));
         }
 
-    pub first-table : recordsOf (standing r) L (take n L) ≡ records (standing r) (take n L)
-    first-table =
-        recordsOf-same r L (take n L) (take n L) λ k l.
+    pub first-table : (f : Form) → recordsOf f (standing r) L (take n L) ≡ records f (standing r) (take n L)
+    first-table f =
+        recordsOf-same f r L (take n L) (take n L) λ k l.
         let (j, i, e) = origin-at r first-records k l in
         let m : j < n = omega (arith, size) in
         number-at r a (standing r (body (at (take n L) k))) j (omega arith) (ap (standing r) (sym (old j m)) ∙ e)
@@ -72,19 +73,19 @@ Right p t v s = Found p t v (result s) (table s) (witness s)
 pub checked-found : {p t v : List ℕ} {s : Whole} → Checked p t v s → Found p t v (result s) (table s) (witness s)
 checked-found (by-reader h) = not-read h refl refl refl
 checked-found {p} {t} {v} (by-records {a = a} h (all-records {L = L} c)) =
-    elim (decLt (slots (length t)) (length L)) [
-      | yes l ↦ rw (T-true (ltb (slots (length t)) (length L)) (lt→ltb (slots (length t)) (length L) l))
-          (no-slot h (first-full (writeOut a) (c .records) (slots (length t)) (omega arith) l (λ k i. c .none k (omega arith)))
-          (length-take-le (slots (length t)) L (omega arith)) refl (ap (onto t) (first-table (writeOut a) (c .records) (slots (length t)) (omega arith))) refl)
-      | no l ↦ rw (not-true (ltb (slots (length t)) (length L)) (λ x. l (ltb→lt (slots (length t)) (length L) x)))
+    elim (decLt (slots (formOf (writeOut a)) (length t)) (length L)) [
+      | yes l ↦ rw (T-true (ltb (slots (formOf (writeOut a)) (length t)) (length L)) (lt→ltb (slots (formOf (writeOut a)) (length t)) (length L) l))
+          (no-slot h (first-full (writeOut a) (c .records) (slots (formOf (writeOut a)) (length t)) (omega arith) l (λ k i. c .none k (omega arith)))
+          (length-take-le (slots (formOf (writeOut a)) (length t)) L (omega arith)) refl (ap (onto t) (first-table (writeOut a) (c .records) (slots (formOf (writeOut a)) (length t)) (omega arith) (formOf (writeOut a)))) refl)
+      | no l ↦ rw (not-true (ltb (slots (formOf (writeOut a)) (length t)) (length L)) (λ x. l (ltb→lt (slots (formOf (writeOut a)) (length t)) (length L) x)))
           (same-cuts h c (omega arith) refl refl refl)
     ]
 checked-found {p} {t} {v} (by-records {a = a} h (up-to-witness L w c)) =
-    elim (decLt (slots (length t)) (length (L ++ (w ∷ [])))) [
-      | yes l ↦ rw (T-true (ltb (slots (length t)) (length (L ++ (w ∷ [])))) (lt→ltb (slots (length t)) (length (L ++ (w ∷ []))) l))
-          (no-slot h (first-full (writeOut a) (c .records) (slots (length t)) (omega arith) l (λ k i x. c .none k (omega (arith, snoc-size L w)) (subst (λ y. T (isWitness (standing (writeOut a) y))) (snoc-old L w k (omega (arith, snoc-size L w))) x)))
-          (length-take-le (slots (length t)) (L ++ (w ∷ [])) (omega arith)) refl (ap (onto t) (first-table (writeOut a) (c .records) (slots (length t)) (omega arith))) refl)
-      | no l ↦ rw (not-true (ltb (slots (length t)) (length (L ++ (w ∷ [])))) (λ x. l (ltb→lt (slots (length t)) (length (L ++ (w ∷ []))) x)))
+    elim (decLt (slots (formOf (writeOut a)) (length t)) (length (L ++ (w ∷ [])))) [
+      | yes l ↦ rw (T-true (ltb (slots (formOf (writeOut a)) (length t)) (length (L ++ (w ∷ [])))) (lt→ltb (slots (formOf (writeOut a)) (length t)) (length (L ++ (w ∷ []))) l))
+          (no-slot h (first-full (writeOut a) (c .records) (slots (formOf (writeOut a)) (length t)) (omega arith) l (λ k i x. c .none k (omega (arith, snoc-size L w)) (subst (λ y. T (isWitness (standing (writeOut a) y))) (snoc-old L w k (omega (arith, snoc-size L w))) x)))
+          (length-take-le (slots (formOf (writeOut a)) (length t)) (L ++ (w ∷ [])) (omega arith)) refl (ap (onto t) (first-table (writeOut a) (c .records) (slots (formOf (writeOut a)) (length t)) (omega arith) (formOf (writeOut a)))) refl)
+      | no l ↦ rw (not-true (ltb (slots (formOf (writeOut a)) (length t)) (length (L ++ (w ∷ [])))) (λ x. l (ltb→lt (slots (formOf (writeOut a)) (length t)) (length (L ++ (w ∷ []))) x)))
           (elim (decLt (length v) (length w)) [
             | yes g ↦ rw (T-true (ltb (length v) (length w)) (lt→ltb (length v) (length w) g)) (no-room h c (omega (arith, snoc-size L w)) g refl refl refl)
             | no g ↦ rw (not-true (ltb (length v) (length w)) (λ x. g (ltb→lt (length v) (length w) x)))

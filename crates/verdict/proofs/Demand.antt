@@ -17,6 +17,7 @@ use Rattle.grammar.specs.Grammar.{Alternation}
 use Rattle.grammar.specs.Limits.{Reads}
 use Rattle.grammar.specs.Refusals.{Fault}
 use Rattle.grammar.specs.WriteOut.{writeOut}
+use Rattle.verdict.specs.Record.{formOf}
 use Rattle.verdict.specs.Table.{slots}
 use Rattle.verdict.specs.Checked.{Result, alike, unlike, refused, Whole, whole, Checked}
 use Rattle.verdict.specs.Demand.{NoneCut, FirstCut, Number, Outnumber, Longer}
@@ -59,13 +60,13 @@ module _ {p t v : List ℕ} where
 
     -- WITHHELD: exactly if the distinct standings of the lines that no line cut differently comes before outnumber the slots (10), or else the first line cut
     -- differently is longer than the buffer (11).
-    pub ten-exactly : RefusedBy p t v 10 ↔ Outnumber (writeOut a) (slots (length t))
+    pub ten-exactly : RefusedBy p t v 10 ↔ Outnumber (writeOut a) (slots (formOf (writeOut a)) (length t))
     ten-exactly = (λ c. ten a i .0 (to c), λ o. back (ten a i .1 o))
 
-    pub eleven-exactly : RefusedBy p t v 11 ↔ ((Outnumber (writeOut a) (slots (length t)) → ⊥) × Longer (writeOut a) (length v))
+    pub eleven-exactly : RefusedBy p t v 11 ↔ ((Outnumber (writeOut a) (slots (formOf (writeOut a)) (length t)) → ⊥) × Longer (writeOut a) (length v))
     eleven-exactly = (λ c. eleven a i .0 (to c), λ o. back (eleven a i .1 o))
 
-    pub withheld-exactly : (RefusedBy p t v 10 ⊎ RefusedBy p t v 11) ↔ (Outnumber (writeOut a) (slots (length t)) ⊎ Longer (writeOut a) (length v))
+    pub withheld-exactly : (RefusedBy p t v 10 ⊎ RefusedBy p t v 11) ↔ (Outnumber (writeOut a) (slots (formOf (writeOut a)) (length t)) ⊎ Longer (writeOut a) (length v))
     withheld-exactly = (
       λ c. withheld a i .0 (either (λ x. inl (to x)) (λ x. inr (to x)) c),
       λ o. either (λ x. inl (back x)) (λ x. inr (back x)) (withheld a i .1 o),

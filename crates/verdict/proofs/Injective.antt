@@ -17,8 +17,8 @@ use Rattle.theory.proofs.Tests.{either, or-cases, or-left, or-right, same-test}
 use Rattle.theory.proofs.Members.{filter-of, filter-passes, member-from}
 use Rattle.theory.proofs.Sizes.{order-below, order-size}
 use Rattle.verdict.specs.Bits.{bits, bit, fromBits, pack}
-use Rattle.verdict.specs.Record.{setBits, sixBits, recordBits, recordBytes}
-use Rattle.verdict.proofs.Tables.{length-bits, length-sixBits, record-512, length-bit}
+use Rattle.verdict.specs.Record.{Form, setBits, sixBits, recordBits, recordBytes}
+use Rattle.verdict.proofs.Tables.{length-bits, length-sixBits, length-record, length-bit}
 use Rattle.verdict.proofs.StayBytes.{record-two, drop-below}
 use Rattle.verdict.proofs.Packed.{number-one, length-set}
 
@@ -111,13 +111,13 @@ module _ (r : Re) (d : Numbered 0 r) (few : count r ≤ 64) where
           (λ t. filter-passes (λ q. member q (wanted (outcomes r v 0))) (from 0 (count r)) p t)
           (λ t. filter-of (λ q. member q (wanted (outcomes r v 0))) (from 0 (count r)) p t (member-from p 0 (count r) (omega arith) (omega arith)))
 
-  -- ONE RECORD, ONE STANDING: two lines whose standings are not equal have different records.
-  pub record-injective : (v w : List ℕ) (o b o′ b′ : ℕ) → recordBytes (standing r v) o b ≡ recordBytes (standing r w) o′ b′ → standing r v ≡ standing r w
+  -- ONE RECORD, ONE STANDING: two lines whose standings are not equal have different records, in each form with room for the pattern's leaves.
+  pub record-injective : (f : Form) → 104 + 6 * f .numbers ≤ 8 * f .bytes → count r ≤ f .numbers → (v w : List ℕ) (o b o′ b′ : ℕ) → recordBytes f (standing r v) o b ≡ recordBytes f (standing r w) o′ b′ → standing r v ≡ standing r w
   unfolding recordBytes recordBits
-  record-injective v w o b o′ b′ e =
+  record-injective f room leaves v w o b o′ b′ e =
       let s = standing r v in
       let t = standing r w in
-      let x : recordBits s o b ≡ recordBits t o′ b′ = pack-same 64 (recordBits s o b) (recordBits t o′ b′) (record-two s o b) (record-two t o′ b′) (record-512 s o b) (record-512 t o′ b′) e in
+      let x : recordBits f s o b ≡ recordBits f t o′ b′ = pack-same (f .bytes) (recordBits f s o b) (recordBits f t o′ b′) (record-two f s o b) (record-two f t o′ b′) (length-record f room s o b) (length-record f room t o′ b′) e in
       let x1 = bits-apart 7 (length (s .order)) (length (t .order)) _ _ x in
       let x2 = bit-apart (s .first) (t .first) _ _ (x1 .1) in
       let x3 = bit-apart (s .some) (t .some) _ _ (x2 .1) in
@@ -125,9 +125,9 @@ module _ (r : Re) (d : Numbered 0 r) (few : count r ≤ 64) where
       let x5 = apart (setBits (s .all) (from 0 64)) _ (setBits (t .all) (from 0 64)) _ (length-set (s .all) (from 0 64) ∙ sym (length-set (t .all) (from 0 64))) (x4 .1) in
       let x6 = bits-apart 16 o o′ _ _ (x5 .1) in
       let x7 = bits-apart 8 b b′ _ _ (x6 .1) in
-      let x8 = apart (sixBits 64 (s .order)) _ (sixBits 64 (t .order)) _ (length-sixBits 64 (s .order) ∙ sym (length-sixBits 64 (t .order))) (x7 .1) in
+      let x8 = apart (sixBits (f .numbers) (s .order)) _ (sixBits (f .numbers) (t .order)) _ (length-sixBits (f .numbers) (s .order) ∙ sym (length-sixBits (f .numbers) (t .order))) (x7 .1) in
       let n : length (s .order) ≡ length (t .order) = bits-same 7 (length (s .order)) (length (t .order)) (omega (arith, order-size r d v)) (omega (arith, order-size r d w)) (x1 .0) in
       let e1 : s .order ≡ t .order =
-      six-same 64 (s .order) (t .order) (below-by 64 (s .order) λ p i. omega (arith, order-below r d v p i)) (below-by 64 (t .order) λ p i. omega (arith, order-below r d w p i)) n (omega (arith, order-size r d v)) (x8 .0) in
+      six-same (f .numbers) (s .order) (t .order) (below-by 64 (s .order) λ p i. omega (arith, order-below r d v p i)) (below-by 64 (t .order) λ p i. omega (arith, order-below r d w p i)) n (omega (arith, order-size r d v)) (x8 .0) in
       let e3 = all-same v w (x5 .0) in
       λ i. record { order = e1 i; first = x2 .0 i; all = e3 i; some = x3 .0 i }

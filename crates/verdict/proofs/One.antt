@@ -22,6 +22,7 @@ use Rattle.grammar.specs.WriteOut.{writeOut}
 use Rattle.grammar.proofs.Sound.{read-right}
 use Rattle.grammar.proofs.Unique.{right-unique}
 use Rattle.grammar.proofs.Size.{writeOut-numbered}
+use Rattle.verdict.specs.Record.{formOf}
 use Rattle.verdict.specs.Table.{records, slots, onto}
 use Rattle.verdict.specs.Checked.{Whole, whole, Result, alike as same, unlike as differ, refused as refuse}
 use Rattle.verdict.specs.Code.Found.{Found, not-read, same-cuts, first-witness, no-slot, no-room}
@@ -38,16 +39,16 @@ witness (whole x t v) = v
 
 -- What an outcome's lines make of the buffers.
 abbrev pub answer : Re → List ℕ → List ℕ → Shown → Whole
-answer r t v (alike-of L) = whole (same (length L)) (onto t (records (standing r) L)) v
+answer r t v (alike-of L) = whole (same (length L)) (onto t (records (formOf r) (standing r) L)) v
 answer r t v (unlike-of L w) =
     cond (ltb (length v) (length w))
-    (whole (refuse 11 0) (onto t (records (standing r) (L ++ (w ∷ [])))) v)
-    (whole (differ (suc (length L)) (length w)) (onto t (records (standing r) (L ++ (w ∷ [])))) (onto v w))
-answer r t v (full-of L) = whole (refuse 10 0) (onto t (records (standing r) L)) v
+    (whole (refuse 11 0) (onto t (records (formOf r) (standing r) (L ++ (w ∷ [])))) v)
+    (whole (differ (suc (length L)) (length w)) (onto t (records (formOf r) (standing r) (L ++ (w ∷ [])))) (onto v w))
+answer r t v (full-of L) = whole (refuse 10 0) (onto t (records (formOf r) (standing r) L)) v
 
 -- The search's outcome for a tree, and the whole answer, computed.
 abbrev pub searched : List ℕ → Alternation → Shown
-searched t a = show (check (writeOut a) (writeOut-numbered a) (slots (length t)))
+searched t a = show (check (writeOut a) (writeOut-numbered a) (slots (formOf (writeOut a)) (length t)))
 
 abbrev pub read-answer : List ℕ → List ℕ → Answer → Whole
 read-answer t v (accepted a) = answer (writeOut a) t v (searched t a)
@@ -61,7 +62,7 @@ pub found-right : (p t v : List ℕ) → Found p t v (result (found p t v)) (tab
 unfolding found
 found-right p t v = go (read p) (read-right p)
   where
-    outcome : {a : Alternation} → Reads p a → (o : SearchEnd (writeOut a) (slots (length t))) → (s : Whole) → answer (writeOut a) t v (show o) ≡ s → Found p t v (result s) (table s) (witness s)
+    outcome : {a : Alternation} → Reads p a → (o : SearchEnd (writeOut a) (slots (formOf (writeOut a)) (length t))) → (s : Whole) → answer (writeOut a) t v (show o) ≡ s → Found p t v (result s) (table s) (witness s)
     outcome h (alike L i a) s e = same-cuts h a i (ap result (sym e)) (ap table (sym e)) (ap witness (sym e))
     outcome h (full L i a) s e = no-slot h a i (ap result (sym e)) (ap table (sym e)) (ap witness (sym e))
     outcome h (unlike L w i a) s e =
@@ -74,7 +75,7 @@ found-right p t v = go (read p) (read-right p)
 
     go : (x : Answer) → Right p x → Found p t v (result (read-answer t v x)) (table (read-answer t v x)) (witness (read-answer t v x))
     go (refused n q) h = not-read h refl refl refl
-    go (accepted a) h = outcome h (check (writeOut a) (writeOut-numbered a) (slots (length t))) _ refl
+    go (accepted a) h = outcome h (check (writeOut a) (writeOut-numbered a) (slots (formOf (writeOut a)) (length t))) _ refl
 
 -- And nothing else is.
 pub found-only : {p t v : List ℕ} {x : Result} {t′ v′ : List ℕ} → Found p t v x t′ v′ → found p t v ≡ whole x t′ v′
@@ -84,10 +85,10 @@ found-only {p} {t} {v} {x} {t′} {v′} c = go c
     join : {y : Result} {t″ v″ : List ℕ} → x ≡ y → t′ ≡ t″ → v′ ≡ v″ → whole y t″ v″ ≡ whole x t′ v′
     join e f g = rw (e, f, g)
 
-    by : {a : Alternation} → Reads p a → (o : SearchEnd (writeOut a) (slots (length t))) → answer (writeOut a) t v (show o) ≡ whole x t′ v′ → read-answer t v (read p) ≡ whole x t′ v′
+    by : {a : Alternation} → Reads p a → (o : SearchEnd (writeOut a) (slots (formOf (writeOut a)) (length t))) → answer (writeOut a) t v (show o) ≡ whole x t′ v′ → read-answer t v (read p) ≡ whole x t′ v′
     by {a} h o e =
         ap (read-answer t v) (right-unique p (accepted a) h)
-        ∙ ap (answer (writeOut a) t v) (same-outcome (writeOut a) (writeOut-numbered a) (check (writeOut a) (writeOut-numbered a) (slots (length t))) o)
+        ∙ ap (answer (writeOut a) t v) (same-outcome (writeOut a) (writeOut-numbered a) (check (writeOut a) (writeOut-numbered a) (slots (formOf (writeOut a)) (length t))) o)
         ∙ e
 
     go : Found p t v x t′ v′ → read-answer t v (read p) ≡ whole x t′ v′

@@ -14,16 +14,16 @@ use Rattle.theory.specs.Code.Search.{Search}
 use Rattle.theory.proofs.Search.{origin, increasing}
 use Rattle.theory.proofs.Lines.{≺-irrefl, ≺-trans}
 use Rattle.theory.proofs.Records.{carries, search-records}
-use Rattle.verdict.specs.Record.{recordBytes}
+use Rattle.verdict.specs.Record.{Form, recordBytes}
 use Rattle.verdict.specs.Table.{recordOf}
 use Rattle.verdict.proofs.Tables.{record-is, snoc-after}
 
-module _ (r : Re) (d : Numbered 0 r) where
+module _ (f : Form) (r : Re) (d : Numbered 0 r) where
   pub came-from : {L : List (List ℕ)} {q c : ℕ} → Search r L q c → (k : ℕ) → 0 < k → k < length L
-      → (j b : ℕ) × (j < k) × (b < 256) × (at L k ≡ at L j ++ (b ∷ [])) × (recordOf (standing r) L (at L k) ≡ recordBytes (standing r (at L k)) j b)
+      → (j b : ℕ) × (j < k) × (b < 256) × (at L k ≡ at L j ++ (b ∷ [])) × (recordOf f (standing r) L (at L k) ≡ recordBytes f (standing r (at L k)) j b)
   came-from {L} {q} {c} t k p l =
       let (j, b, a, x, y, z) = origin (standing r) (carries r d) 256 t k p l in
-      (j, b, sooner j b z x, y, z, subst (λ w. recordOf (standing r) L w ≡ recordBytes (standing r w) j b) (sym z) (record-is r (search-records r d t) (at L j) b j x refl))
+      (j, b, sooner j b z x, y, z, subst (λ w. recordOf f (standing r) L w ≡ recordBytes f (standing r w) j b) (sym z) (record-is f r (search-records r d t) (at L j) b j x refl))
     where
       sooner : (j b : ℕ) → at L k ≡ at L j ++ (b ∷ []) → j < length L → j < k
       sooner j b z x =

@@ -1,4 +1,4 @@
--- The bytes of a record by `*`, `/` and `%`, as code makes them.
+-- The bytes of a record by `*`, `/` and `%`, as code makes them: 64, of which a narrow record is the first.
 -- Assumes nothing.
 use mathlib.Core.Path.{_≡_, refl, sym, ap, ap₂, _∙_}
 use Prim.Native.Nat.{ℕ, zero, suc, _+_, _*_, _/_, _%_, _^_, _<_}
@@ -10,7 +10,7 @@ use lib.ListN.{length, drop, getD, length-append}
 use lib.Seq.{take-at, drop-at}
 use Rattle.theory.specs.Standing.{Standing, member, from}
 use Rattle.verdict.specs.Bits.{bits, bit, fromBits, pack}
-use Rattle.verdict.specs.Record.{setBits, sixBits, recordBits, recordBytes}
+use Rattle.verdict.specs.Record.{setBits, sixBits, wide, recordBits, recordBytes}
 use Rattle.verdict.proofs.Tables.{length-bit, length-bits}
 use Rattle.verdict.proofs.Finite.{digits-same, digits-less}
 
@@ -181,7 +181,7 @@ rest o b l =
     ∙ ap₂ _∷_ (number-one 8 b) (pack-six 16 3 l (bits 24 0) ∙ ap (λ x. sixBytes 16 l ++ x) zeros)))
 
 pub packed : (s : Standing) (origin byte : ℕ)
-    → recordBytes s origin byte
+    → recordBytes wide s origin byte
     ≡ (2 * (length (s .order) % 128) + one (s .first))
     ∷ (one (s .some) * 128)
     ∷ (setBytes (s .all) 8 0 ++ ((origin / 256 % 256) ∷ (origin % 256) ∷ (byte % 256) ∷ (sixBytes 16 (s .order) ++ (0 ∷ 0 ∷ 0 ∷ []))))

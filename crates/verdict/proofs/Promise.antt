@@ -19,6 +19,7 @@ use Rattle.grammar.specs.Refusals.{Fault, tooLong, wrong, tooHeavy, Wrong, unop
 use Rattle.grammar.specs.WriteOut.{writeOut}
 use Rattle.grammar.proofs.Right.{unambiguous, not-both}
 use Rattle.grammar.proofs.Size.{writeOut-numbered}
+use Rattle.verdict.specs.Record.{formOf}
 use Rattle.verdict.specs.Table.{records, slots, onto}
 use Rattle.verdict.specs.Checked.{Result, alike as same, unlike as differ, refused as refuse}
 use Rattle.verdict.specs.Code.Found.{Found, not-read, same-cuts, first-witness, no-slot, no-room}
@@ -48,8 +49,8 @@ fault-number (tooHeavy h t w i e j k f) = omega arith
 abbrev pub Refused : List ℕ → List ℕ → List ℕ → ℕ → Type 0
 Refused p t v n = (t′ v′ : List ℕ) × Found p t v (refuse n 0) t′ v′
 
-fits : (t : List ℕ) (r : Re) (L : List (List ℕ)) → length L ≤ slots (length t) → length (onto t (records (standing r) L)) ≡ length t
-fits t r L h = onto-length t (records (standing r) L) (omega (arith, records-size r L L, slots-fit (length t)))
+fits : (t : List ℕ) (r : Re) (L : List (List ℕ)) → length L ≤ slots (formOf r) (length t) → length (onto t (records (formOf r) (standing r) L)) ≡ length t
+fits t r L h = onto-length t (records (formOf r) (standing r) L) (omega (arith, records-size (formOf r) r L L, slots-fit (formOf r) (length t) (length L) h))
 
 module _ {p t v : List ℕ} where
   -- Alike: no sequence of bytes of any length is cut differently, and the count is the number of distinct standings.
@@ -83,51 +84,51 @@ module _ {p t v : List ℕ} where
 
   module _ (a : Alternation) (i : Reads p a) where
     -- 10 exactly if the distinct standings of those lines outnumber the slots.
-    pub ten-only : Refused p t v 10 → Outnumber (writeOut a) (slots (length t))
+    pub ten-only : Refused p t v 10 → Outnumber (writeOut a) (slots (formOf (writeOut a)) (length t))
     ten-only (t′, v′, not-read {n = n} {q = q} f e g h) = absurd (not-both p a n q i f)
     ten-only (t′, v′, same-cuts h c l e f g) = absurd (let z : _≡_ {A = ℕ} 0 1 = cc in omega arith)
     ten-only (t′, v′, first-witness h c l k e f g) = absurd (let z : _≡_ {A = ℕ} 0 1 = cc in omega arith)
     ten-only (t′, v′, no-slot {a = b} {L = L} h c l e f g) =
-        subst (λ x. Outnumber (writeOut x) (slots (length t))) (unambiguous p b a h i) (subst (Outnumber (writeOut b)) l (full-outnumbers (writeOut b) (writeOut-numbered b) c))
+        subst (λ x. Outnumber (writeOut x) (slots (formOf (writeOut x)) (length t))) (unambiguous p b a h i) (subst (Outnumber (writeOut b)) l (full-outnumbers (writeOut b) (writeOut-numbered b) c))
     ten-only (t′, v′, no-room h c l k e f g) = absurd (let z : _≡_ {A = ℕ} 10 11 = cc in omega arith)
 
-    pub ten-if : Outnumber (writeOut a) (slots (length t)) → Refused p t v 10
-    ten-if o = go (check (writeOut a) (writeOut-numbered a) (slots (length t)))
+    pub ten-if : Outnumber (writeOut a) (slots (formOf (writeOut a)) (length t)) → Refused p t v 10
+    ten-if o = go (check (writeOut a) (writeOut-numbered a) (slots (formOf (writeOut a)) (length t)))
       where
-        go : SearchEnd (writeOut a) (slots (length t)) → Refused p t v 10
+        go : SearchEnd (writeOut a) (slots (formOf (writeOut a)) (length t)) → Refused p t v 10
         go (alike L h c) = absurd (enough (writeOut a) (writeOut-numbered a) (alike-number (writeOut a) (writeOut-numbered a) c) h o)
         go (unlike L w h c) = absurd (enough (writeOut a) (writeOut-numbered a) (unlike-number (writeOut a) (writeOut-numbered a) c) h o)
-        go (full L h c) = (onto t (records (standing (writeOut a)) L), v, no-slot i c h refl refl refl)
+        go (full L h c) = (onto t (records (formOf (writeOut a)) (standing (writeOut a)) L), v, no-slot i c h refl refl refl)
 
-    pub ten : Refused p t v 10 ↔ Outnumber (writeOut a) (slots (length t))
+    pub ten : Refused p t v 10 ↔ Outnumber (writeOut a) (slots (formOf (writeOut a)) (length t))
     ten = (ten-only, ten-if)
 
     -- 11 exactly if they do not, and the first line cut differently is longer than the buffer.
-    pub eleven-only : Refused p t v 11 → (Outnumber (writeOut a) (slots (length t)) → ⊥) × Longer (writeOut a) (length v)
+    pub eleven-only : Refused p t v 11 → (Outnumber (writeOut a) (slots (formOf (writeOut a)) (length t)) → ⊥) × Longer (writeOut a) (length v)
     eleven-only (t′, v′, not-read {n = n} {q = q} f e g h) = absurd (not-both p a n q i f)
     eleven-only (t′, v′, same-cuts h c l e f g) = absurd (let z : _≡_ {A = ℕ} 0 1 = cc in omega arith)
     eleven-only (t′, v′, first-witness h c l k e f g) = absurd (let z : _≡_ {A = ℕ} 0 1 = cc in omega arith)
     eleven-only (t′, v′, no-slot h c l e f g) = absurd (let z : _≡_ {A = ℕ} 11 10 = cc in omega arith)
     eleven-only (t′, v′, no-room {a = b} {w = w} h c l k e f g) =
-        subst (λ x. (Outnumber (writeOut x) (slots (length t)) → ⊥) × Longer (writeOut x) (length v)) (unambiguous p b a h i)
+        subst (λ x. (Outnumber (writeOut x) (slots (formOf (writeOut x)) (length t)) → ⊥) × Longer (writeOut x) (length v)) (unambiguous p b a h i)
         (enough (writeOut b) (writeOut-numbered b) (unlike-number (writeOut b) (writeOut-numbered b) c) l, (w, first-cut (writeOut b) (writeOut-numbered b) c, k))
 
     -- Where the first line cut differently is too long, the verdict is withheld.
     too-long : Longer (writeOut a) (length v) → Refused p t v 10 ⊎ Refused p t v 11
-    too-long (w, c, l) = go (check (writeOut a) (writeOut-numbered a) (slots (length t)))
+    too-long (w, c, l) = go (check (writeOut a) (writeOut-numbered a) (slots (formOf (writeOut a)) (length t)))
       where
-        go : SearchEnd (writeOut a) (slots (length t)) → Refused p t v 10 ⊎ Refused p t v 11
+        go : SearchEnd (writeOut a) (slots (formOf (writeOut a)) (length t)) → Refused p t v 10 ⊎ Refused p t v 11
         go (alike L h b) = absurd (alike-none (writeOut a) (writeOut-numbered a) b w (c .bytes) (c .cut))
         go (unlike L u h b) =
             let e = first-unique (writeOut a) (writeOut-numbered a) c (first-cut (writeOut a) (writeOut-numbered a) b) in
-            inr (onto t (records (standing (writeOut a)) (L ++ (u ∷ []))), v, no-room i b h (omega (arith, ap length e)) refl refl refl)
-        go (full L h b) = inl (onto t (records (standing (writeOut a)) L), v, no-slot i b h refl refl refl)
+            inr (onto t (records (formOf (writeOut a)) (standing (writeOut a)) (L ++ (u ∷ []))), v, no-room i b h (omega (arith, ap length e)) refl refl refl)
+        go (full L h b) = inl (onto t (records (formOf (writeOut a)) (standing (writeOut a)) L), v, no-slot i b h refl refl refl)
 
-    pub eleven : Refused p t v 11 ↔ ((Outnumber (writeOut a) (slots (length t)) → ⊥) × Longer (writeOut a) (length v))
+    pub eleven : Refused p t v 11 ↔ ((Outnumber (writeOut a) (slots (formOf (writeOut a)) (length t)) → ⊥) × Longer (writeOut a) (length v))
     eleven = (eleven-only, λ h. either (λ x. absurd (h .0 (ten-only x))) (λ x. x) (too-long (h .1)))
 
     -- A verdict is withheld exactly if the distinct standings outnumber the slots, or the first line cut differently is longer than the buffer.
-    pub withheld : (Refused p t v 10 ⊎ Refused p t v 11) ↔ (Outnumber (writeOut a) (slots (length t)) ⊎ Longer (writeOut a) (length v))
+    pub withheld : (Refused p t v 10 ⊎ Refused p t v 11) ↔ (Outnumber (writeOut a) (slots (formOf (writeOut a)) (length t)) ⊎ Longer (writeOut a) (length v))
     withheld = (
       either (λ x. inl (ten-only x)) (λ x. inr (eleven-only x .1)),
       either (λ x. inl (ten-if x)) too-long,

@@ -23,7 +23,7 @@ use Rattle.grammar.specs.WriteOut.{writeOut, bracketed, shape, chain, optional}
 use Rattle.grammar.proofs.Sound.{read-right}
 use Rattle.grammar.proofs.Size.{writeOut-numbered}
 use Rattle.verdict.specs.Bits.{bits, pack}
-use Rattle.verdict.specs.Record.{recordBits, recordBytes}
+use Rattle.verdict.specs.Record.{formOf, recordBits, recordBytes}
 use Rattle.verdict.specs.Table.{same, numberOf, recordsOf, records, slots, onto}
 use Rattle.verdict.specs.Checked.{Whole, whole, Result, alike, unlike, refused as refuse}
 use Rattle.verdict.specs.Starred.{Row, cuts, checks, RowHolds, All, starred}
@@ -37,15 +37,15 @@ cutRow p w (accepted a) = cuts p w (greedy (writeOut a) w) (posix (writeOut a) w
 cutRow p w (refused n q) = checks [] 0 0 (refuse 0 0) [] []
 
 abbrev shownRow : List ℕ → ℕ → ℕ → Re → Shown → Row
-shownRow p n m r (alike-of L) = checks p n m (alike (length L)) (records (standing r) L) []
+shownRow p n m r (alike-of L) = checks p n m (alike (length L)) (records (formOf r) (standing r) L) []
 shownRow p n m r (unlike-of L w) =
     cond (ltb m (length w))
-    (checks p n m (refuse 11 0) (records (standing r) (L ++ (w ∷ []))) [])
-    (checks p n m (unlike (suc (length L)) (length w)) (records (standing r) (L ++ (w ∷ []))) w)
-shownRow p n m r (full-of L) = checks p n m (refuse 10 0) (records (standing r) L) []
+    (checks p n m (refuse 11 0) (records (formOf r) (standing r) (L ++ (w ∷ []))) [])
+    (checks p n m (unlike (suc (length L)) (length w)) (records (formOf r) (standing r) (L ++ (w ∷ []))) w)
+shownRow p n m r (full-of L) = checks p n m (refuse 10 0) (records (formOf r) (standing r) L) []
 
 abbrev checkRow : List ℕ → ℕ → ℕ → Answer → Row
-checkRow p n m (accepted a) = shownRow p n m (writeOut a) (show (check (writeOut a) (writeOut-numbered a) (slots n)))
+checkRow p n m (accepted a) = shownRow p n m (writeOut a) (show (check (writeOut a) (writeOut-numbered a) (slots (formOf (writeOut a)) n)))
 checkRow p n m (refused k q) = checks p n m (refuse k q) [] []
 
 computed : Row → Row
@@ -67,8 +67,8 @@ spread-right p t v (accepted a) = go (searched t a)
     go (full-of L) = refl
     go (unlike-of L w) = pick (ltb (length v) (length w))
       where
-        pick : (c : Bool) → cond c (whole (refuse 11 0) (onto t (records (standing (writeOut a)) (L ++ (w ∷ [])))) v) (whole (unlike (suc (length L)) (length w)) (onto t (records (standing (writeOut a)) (L ++ (w ∷ [])))) (onto v w))
-            ≡ spread t v (cond c (checks p (length t) (length v) (refuse 11 0) (records (standing (writeOut a)) (L ++ (w ∷ []))) []) (checks p (length t) (length v) (unlike (suc (length L)) (length w)) (records (standing (writeOut a)) (L ++ (w ∷ []))) w))
+        pick : (c : Bool) → cond c (whole (refuse 11 0) (onto t (records (formOf (writeOut a)) (standing (writeOut a)) (L ++ (w ∷ [])))) v) (whole (unlike (suc (length L)) (length w)) (onto t (records (formOf (writeOut a)) (standing (writeOut a)) (L ++ (w ∷ [])))) (onto v w))
+            ≡ spread t v (cond c (checks p (length t) (length v) (refuse 11 0) (records (formOf (writeOut a)) (standing (writeOut a)) (L ++ (w ∷ []))) []) (checks p (length t) (length v) (unlike (suc (length L)) (length w)) (records (formOf (writeOut a)) (standing (writeOut a)) (L ++ (w ∷ []))) w))
         pick true = refl
         pick false = refl
 

@@ -13,7 +13,7 @@ use Rattle.theory.proofs.Lines.{below-append}
 use Rattle.grammar.specs.WriteOut.{writeOut}
 use Rattle.grammar.proofs.Size.{writeOut-numbered}
 use Rattle.verdict.specs.Bits.{bits, bit, fromBits, pack}
-use Rattle.verdict.specs.Record.{setBits, sixBits, recordBits, recordBytes}
+use Rattle.verdict.specs.Record.{Form, formOf, spareBits, setBits, sixBits, recordBits, recordBytes}
 use Rattle.verdict.specs.Table.{body, lastByte, numberOf, recordOf, recordsOf, records, onto}
 use Rattle.verdict.specs.Checked.{Result}
 use Rattle.verdict.specs.Code.Found.{Found, not-read, same-cuts, first-witness, no-slot, no-room}
@@ -52,11 +52,11 @@ bitsTwo d n = two (bits-two d n)
 bitTwo : (c : Bool) → Two (bit c)
 bitTwo c = two (bit-two c)
 
-record-Two : (s : Standing) (o b : ℕ) → Two (recordBits s o b)
+record-Two : (f : Form) (s : Standing) (o b : ℕ) → Two (recordBits f s o b)
 unfolding recordBits
-record-Two s o b =
+record-Two f s o b =
     let c : Two (setBits (s .all) (from 0 64)) = two (set-two (s .all) (from 0 64)) in
-    let a : Two (sixBits 64 (s .order)) = two (six-two 64 (s .order)) in
+    let a : Two (sixBits (f .numbers) (s .order)) = two (six-two (f .numbers) (s .order)) in
     join (bitsTwo 7 (length (s .order)))
     (join (bitTwo (s .first))
     (join (bitTwo (s .some))
@@ -64,10 +64,10 @@ record-Two s o b =
     (join c
     (join (bitsTwo 16 o)
     (join (bitsTwo 8 b)
-    (join a (bitsTwo 24 0))))))))
+    (join a (bitsTwo (spareBits f) 0))))))))
 
-pub record-two : (s : Standing) (o b : ℕ) → Below 2 (recordBits s o b)
-record-two s o b = unTwo (record-Two s o b)
+pub record-two : (f : Form) (s : Standing) (o b : ℕ) → Below 2 (recordBits f s o b)
+record-two f s o b = unTwo (record-Two f s o b)
 
 number-less : (k n : ℕ) (l : List ℕ) → Below 2 l → fromBits n (take k l) < suc n * 2 ^ k
 number-less zero n l h = rw (pow-zero, mul-one) (omega arith)
@@ -87,22 +87,22 @@ unfolding pack
 pack-bytes zero l h = tt
 pack-bytes (suc n) l h = (number-less 8 0 l h, pack-bytes n (drop 8 l) (drop-below 2 8 l h))
 
-pub record-bytes : (s : Standing) (o b : ℕ) → Below 256 (recordBytes s o b)
+pub record-bytes : (f : Form) (s : Standing) (o b : ℕ) → Below 256 (recordBytes f s o b)
 unfolding recordBytes
-record-bytes s o b = pack-bytes 64 (recordBits s o b) (record-two s o b)
+record-bytes f s o b = pack-bytes (f .bytes) (recordBits f s o b) (record-two f s o b)
 
-pub records-bytes : (r : Re) (L M : List (List ℕ)) → Below 256 (recordsOf (standing r) L M)
+pub records-bytes : (f : Form) (r : Re) (L M : List (List ℕ)) → Below 256 (recordsOf f (standing r) L M)
 unfolding recordsOf
-records-bytes r L [] = tt
-records-bytes r L (w ∷ M) = below-append 256 (recordOf (standing r) L w) (recordsOf (standing r) L M) (record-bytes (standing r w) (numberOf (standing r) L (standing r (body w))) (lastByte w)) (records-bytes r L M)
+records-bytes f r L [] = tt
+records-bytes f r L (w ∷ M) = below-append 256 (recordOf f (standing r) L w) (recordsOf f (standing r) L M) (record-bytes f (standing r w) (numberOf (standing r) L (standing r (body w))) (lastByte w)) (records-bytes f r L M)
 
 onto-bytes : (t u : List ℕ) → Below 256 t → Below 256 u → Below 256 (onto t u)
 onto-bytes t u h g = below-append 256 u (drop (length u) t) g (drop-below 256 (length u) t h)
 
 pub stay-bytes : {p t v : List ℕ} {x : Result} {t′ v′ : List ℕ} → Found p t v x t′ v′ → Below 256 t → Below 256 v → Below 256 t′ × Below 256 v′
 stay-bytes (not-read h e f g) a b = (rw f a, rw g b)
-stay-bytes {t = t} (same-cuts {a = y} {L = L} h c l e f g) a b = (rw f (onto-bytes t (records (standing (writeOut y)) L) a (records-bytes (writeOut y) L L)), rw g b)
+stay-bytes {t = t} (same-cuts {a = y} {L = L} h c l e f g) a b = (rw f (onto-bytes t (records (formOf (writeOut y)) (standing (writeOut y)) L) a (records-bytes (formOf (writeOut y)) (writeOut y) L L)), rw g b)
 stay-bytes {t = t} {v = v} (first-witness {a = y} {L = L} {w = w} h c l k e f g) a b =
-    (rw f (onto-bytes t (records (standing (writeOut y)) (L ++ (w ∷ []))) a (records-bytes (writeOut y) _ _)), rw g (onto-bytes v w b (first-cut (writeOut y) (writeOut-numbered y) c .bytes)))
-stay-bytes {t = t} (no-slot {a = y} {L = L} h c l e f g) a b = (rw f (onto-bytes t (records (standing (writeOut y)) L) a (records-bytes (writeOut y) L L)), rw g b)
-stay-bytes {t = t} (no-room {a = y} {L = L} {w = w} h c l k e f g) a b = (rw f (onto-bytes t (records (standing (writeOut y)) (L ++ (w ∷ []))) a (records-bytes (writeOut y) _ _)), rw g b)
+    (rw f (onto-bytes t (records (formOf (writeOut y)) (standing (writeOut y)) (L ++ (w ∷ []))) a (records-bytes (formOf (writeOut y)) (writeOut y) _ _)), rw g (onto-bytes v w b (first-cut (writeOut y) (writeOut-numbered y) c .bytes)))
+stay-bytes {t = t} (no-slot {a = y} {L = L} h c l e f g) a b = (rw f (onto-bytes t (records (formOf (writeOut y)) (standing (writeOut y)) L) a (records-bytes (formOf (writeOut y)) (writeOut y) L L)), rw g b)
+stay-bytes {t = t} (no-room {a = y} {L = L} {w = w} h c l k e f g) a b = (rw f (onto-bytes t (records (formOf (writeOut y)) (standing (writeOut y)) (L ++ (w ∷ []))) a (records-bytes (formOf (writeOut y)) (writeOut y) _ _)), rw g b)

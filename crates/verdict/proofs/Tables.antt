@@ -6,7 +6,7 @@ use Prim.Native.Nat.{ℕ, zero, suc, _+_, _*_, _/_, _≤_, _<_}
 use mathlib.Core.Bool.{Bool, true, false, _&&_, cond}
 use mathlib.Core.List.{List, [], _∷_, _++_, append-nil, append-assoc}
 use native.Mathlib.Omega.{arith}
-use native.Mathlib.Nat.{div-add-mod', min-le-left, min-le-right, zero-add}
+use native.Mathlib.Nat.{div-mul-le-self, mul-comm, mul-suc, mul-zero, mul-le-mul-left, min-le-left, min-le-right, zero-add, le-trans}
 use lib.ListN.{length, take, drop, length-append, length-drop}
 use lib.Seq.{sets, sets-eq, take-at, take-append-seam, drop-append-add, drop-drop}
 use lib.Dec.{T, eqb, eqb→eq, eqb-refl}
@@ -17,10 +17,10 @@ use Rattle.theory.specs.Lines.{_≺_}
 use Rattle.theory.proofs.Tests.{T-true, not-true, and-split}
 use Rattle.theory.proofs.Lines.{below-left}
 use Rattle.verdict.specs.Bits.{bits, bit, pack}
-use Rattle.verdict.specs.Record.{sixBits, recordBits, recordBytes}
+use Rattle.verdict.specs.Record.{Form, sixBits, recordBits, recordBytes}
 use Rattle.verdict.specs.Table.{body, lastByte, sameList, sameBool, same, numberOf, recordOf, recordsOf, records, slots, onto}
 
--- Sizes: a record has 512 bits and 64 bytes.
+-- Sizes: a record has its form's bytes, where the leaf numbers have room in them.
 pub length-bits : (d n : ℕ) → length (bits d n) ≡ d
 unfolding bits
 length-bits zero n = refl
@@ -35,33 +35,36 @@ length-sixBits zero l = refl
 length-sixBits (suc n) [] = omega (arith, length-append (bits 6 0) (sixBits n []), length-bits 6 0, length-sixBits n [])
 length-sixBits (suc n) (p ∷ l) = omega (arith, length-append (bits 6 p) (sixBits n l), length-bits 6 p, length-sixBits n l)
 
-pub record-512 : (s : Standing) (origin byte : ℕ) → length (recordBits s origin byte) ≡ 512
+pub length-record : (f : Form) → 104 + 6 * f .numbers ≤ 8 * f .bytes → (s : Standing) (origin byte : ℕ) → length (recordBits f s origin byte) ≡ 8 * f .bytes
 unfolding recordBits
-record-512 s o b =
-    simp (length-append, length-bits, length-bit, length-sixBits) refl
+length-record f h s o b =
+    simp (length-append, length-bits, length-bit, length-sixBits) (omega arith)
 
 pub length-pack : (n : ℕ) (l : List ℕ) → length (pack n l) ≡ n
 unfolding pack
 length-pack zero l = refl
 length-pack (suc n) l = ap suc (length-pack n (drop 8 l))
 
-pub record-64 : (s : Standing) (origin byte : ℕ) → length (recordBytes s origin byte) ≡ 64
+pub record-size : (f : Form) (s : Standing) (origin byte : ℕ) → length (recordBytes f s origin byte) ≡ f .bytes
 unfolding recordBytes
-record-64 s o b = length-pack 64 (recordBits s o b)
+record-size f s o b = length-pack (f .bytes) (recordBits f s o b)
 
-pub records-size : (r : Re) (L M : List (List ℕ)) → length (recordsOf (standing r) L M) ≡ 64 * length M
+pub records-size : (f : Form) (r : Re) (L M : List (List ℕ)) → length (recordsOf f (standing r) L M) ≡ f .bytes * length M
 unfolding recordsOf
-records-size r L [] = refl
-records-size r L (w ∷ M) = omega (arith, length-append (recordOf (standing r) L w) (recordsOf (standing r) L M), record-64 (standing r w) (numberOf (standing r) L (standing r (body w))) (lastByte w), records-size r L M)
+records-size f r L [] = sym (mul-zero (f .bytes))
+records-size f r L (w ∷ M) =
+    omega (arith, length-append (recordOf f (standing r) L w) (recordsOf f (standing r) L M), record-size f (standing r w) (numberOf (standing r) L (standing r (body w))) (lastByte w), records-size f r L M, mul-suc (f .bytes) (length M))
 
--- Its slots are in the table.
-pub slots-fit : (n : ℕ) → 64 * slots n ≤ n
+-- Its slots are in the table: so are the bytes of k records, where there are k slots.
+pub slots-fit : (f : Form) (n k : ℕ) → k ≤ slots f n → f .bytes * k ≤ n
 unfolding slots
-slots-fit n = omega (arith, div-add-mod' n 64, min-le-left (n / 64) 65535)
+slots-fit f n k h =
+    let fit : k ≤ n / f .bytes = omega (arith, min-le-left (n / f .bytes) 65535) in
+    omega (arith, mul-le-mul-left (f .bytes) fit, mul-comm (f .bytes) (n / f .bytes), div-mul-le-self n (f .bytes))
 
-pub slots-most : (n : ℕ) → slots n ≤ 65535
+pub slots-most : (f : Form) (n : ℕ) → slots f n ≤ 65535
 unfolding slots
-slots-most n = min-le-right (n / 64) 65535
+slots-most f n = min-le-right (n / f .bytes) 65535
 
 -- `onto` stores.
 pub onto-sets : (t u : List ℕ) → length u ≤ length t → onto t u ≡ sets t 0 u
@@ -140,10 +143,10 @@ last-snoc (a ∷ []) b = refl
 last-snoc (a ∷ c ∷ u) b = last-snoc (c ∷ u) b
 
 -- The records of more lines are those of fewer, and then the new line's.
-recordsOf-append : (r : Re) (L M N : List (List ℕ)) → recordsOf (standing r) L (M ++ N) ≡ recordsOf (standing r) L M ++ recordsOf (standing r) L N
+recordsOf-append : (f : Form) (r : Re) (L M N : List (List ℕ)) → recordsOf f (standing r) L (M ++ N) ≡ recordsOf f (standing r) L M ++ recordsOf f (standing r) L N
 unfolding recordsOf
-recordsOf-append r L [] N = refl
-recordsOf-append r L (w ∷ M) N = rw (recordsOf-append r L M N, append-assoc)
+recordsOf-append f r L [] N = refl
+recordsOf-append f r L (w ∷ M) N = rw (recordsOf-append f r L M N, append-assoc)
 
 -- Where a line comes from: the empty one from itself, any other from a line before it.
 pub data From : List ℕ → Type 0 where
@@ -173,27 +176,28 @@ module _ (r : Re) where
           let (j, i, s) = a .before k l u (below-left 256 u (b ∷ []) (rw e at (a .bytes k l))) (rw e (snoc-after u b)) in
           (j, omega arith, s ∙ ap (standing r) (sym (body-snoc u b)))
 
-  pub recordsOf-same : (L N M : List (List ℕ)) → ((k : ℕ) → k < length M → numberOf (standing r) L (standing r (body (at M k))) ≡ numberOf (standing r) N (standing r (body (at M k)))) → recordsOf (standing r) L M ≡ recordsOf (standing r) N M
+module _ (f : Form) (r : Re) where
+  pub recordsOf-same : (L N M : List (List ℕ)) → ((k : ℕ) → k < length M → numberOf (standing r) L (standing r (body (at M k))) ≡ numberOf (standing r) N (standing r (body (at M k)))) → recordsOf f (standing r) L M ≡ recordsOf f (standing r) N M
   unfolding recordsOf
   recordsOf-same L N [] e = refl
   recordsOf-same L N (w ∷ M) e =
-      ap₂ _++_ (ap (λ n. recordBytes (standing r w) n (lastByte w)) (e 0 (omega arith))) (recordsOf-same L N M λ k h. e (suc k) (omega arith))
+      ap₂ _++_ (ap (λ n. recordBytes f (standing r w) n (lastByte w)) (e 0 (omega arith))) (recordsOf-same L N M λ k h. e (suc k) (omega arith))
 
-  pub records-add : {L : List (List ℕ)} (w : List ℕ) → Records (standing r) L → records (standing r) (L ++ (w ∷ [])) ≡ records (standing r) L ++ recordOf (standing r) (L ++ (w ∷ [])) w
+  pub records-add : {L : List (List ℕ)} (w : List ℕ) → Records (standing r) L → records f (standing r) (L ++ (w ∷ [])) ≡ records f (standing r) L ++ recordOf f (standing r) (L ++ (w ∷ [])) w
   unfolding recordsOf
   records-add {L} w a =
-      recordsOf-append r (L ++ (w ∷ [])) L (w ∷ [])
+      recordsOf-append f r (L ++ (w ∷ [])) L (w ∷ [])
       ∙ ap₂ _++_
-      (recordsOf-same (L ++ (w ∷ [])) L L λ k h. let (j, i, e) = origin-at a k h in number-add r L w (standing r (body (at L k))) j (omega arith) e)
-      (append-nil (recordOf (standing r) (L ++ (w ∷ [])) w))
+      (recordsOf-same (L ++ (w ∷ [])) L L λ k h. let (j, i, e) = origin-at r a k h in number-add r L w (standing r (body (at L k))) j (omega arith) e)
+      (append-nil (recordOf f (standing r) (L ++ (w ∷ [])) w))
 
   -- The record of a line that the byte b made of line j's standing.
   pub record-is : {L : List (List ℕ)} → Records (standing r) L → (u : List ℕ) (b j : ℕ) → j < length L → standing r (at L j) ≡ standing r u
-      → recordOf (standing r) L (u ++ (b ∷ [])) ≡ recordBytes (standing r (u ++ (b ∷ []))) j b
-  record-is a u b j l e = ap₂ (recordBytes (standing r (u ++ (b ∷ [])))) (rw (body-snoc u b) (number-at r a (standing r u) j l e)) (last-snoc u b)
+      → recordOf f (standing r) L (u ++ (b ∷ [])) ≡ recordBytes f (standing r (u ++ (b ∷ []))) j b
+  record-is a u b j l e = ap₂ (recordBytes f (standing r (u ++ (b ∷ [])))) (rw (body-snoc u b) (number-at r a (standing r u) j l e)) (last-snoc u b)
 
   -- The first record comes from nothing.
-  pub record-zero : (L : List (List ℕ)) → recordOf (standing r) ([] ∷ L) [] ≡ recordBytes (standing r []) 0 0
+  pub record-zero : (L : List (List ℕ)) → recordOf f (standing r) ([] ∷ L) [] ≡ recordBytes f (standing r []) 0 0
   unfolding numberOf
   record-zero L = rw (same-refl (standing r []))
 
@@ -207,17 +211,19 @@ onto-more t u x h =
     ∙ sym (sets-eq x (onto t u) (length u) (omega arith) ∙ ap₂ (λ a b. (a ++ x) ++ b) front back)
 
 -- Slot k holds record k.
-slot-of : (r : Re) (L M : List (List ℕ)) (y : List ℕ) (k : ℕ) → k < length M → take 64 (drop (64 * k) (recordsOf (standing r) L M ++ y)) ≡ recordOf (standing r) L (at M k)
-unfolding recordsOf
-slot-of r L [] y k l = absurd (omega arith)
-slot-of r L (w ∷ M) y zero l =
-    ap (take 64) (append-assoc (recordOf (standing r) L w) (recordsOf (standing r) L M) y)
-    ∙ take-at (recordOf (standing r) L w) (recordsOf (standing r) L M ++ y) 64 (record-64 (standing r w) (numberOf (standing r) L (standing r (body w))) (lastByte w))
-slot-of r L (w ∷ M) y (suc k) l =
-    let size : length (recordOf (standing r) L w) ≡ 64 = record-64 (standing r w) (numberOf (standing r) L (standing r (body w))) (lastByte w) in
-    let e : 64 * suc k ≡ length (recordOf (standing r) L w) + 64 * k = omega arith in
-    ap (take 64) (ap₂ drop e (append-assoc (recordOf (standing r) L w) (recordsOf (standing r) L M) y) ∙ drop-append-add (recordOf (standing r) L w) (recordsOf (standing r) L M ++ y) (64 * k))
-    ∙ slot-of r L M y k (omega arith)
+module _ (f : Form) (r : Re) where
+  slot-of : (L M : List (List ℕ)) (y : List ℕ) (k : ℕ) → k < length M → take (f .bytes) (drop (f .bytes * k) (recordsOf f (standing r) L M ++ y)) ≡ recordOf f (standing r) L (at M k)
+  unfolding recordsOf
+  slot-of L [] y k l = absurd (omega arith)
+  slot-of L (w ∷ M) y zero l =
+      ap (λ i. take (f .bytes) (drop i ((recordOf f (standing r) L w ++ recordsOf f (standing r) L M) ++ y))) (mul-zero (f .bytes))
+      ∙ ap (take (f .bytes)) (append-assoc (recordOf f (standing r) L w) (recordsOf f (standing r) L M) y)
+      ∙ take-at (recordOf f (standing r) L w) (recordsOf f (standing r) L M ++ y) (f .bytes) (record-size f (standing r w) (numberOf (standing r) L (standing r (body w))) (lastByte w))
+  slot-of L (w ∷ M) y (suc k) l =
+      let size : length (recordOf f (standing r) L w) ≡ f .bytes = record-size f (standing r w) (numberOf (standing r) L (standing r (body w))) (lastByte w) in
+      let e : f .bytes * suc k ≡ length (recordOf f (standing r) L w) + f .bytes * k = omega (arith, mul-suc (f .bytes) k) in
+      ap (take (f .bytes)) (ap₂ drop e (append-assoc (recordOf f (standing r) L w) (recordsOf f (standing r) L M) y) ∙ drop-append-add (recordOf f (standing r) L w) (recordsOf f (standing r) L M ++ y) (f .bytes * k))
+      ∙ slot-of L M y k (omega arith)
 
-pub slot : (r : Re) (L : List (List ℕ)) (t : List ℕ) (k : ℕ) → k < length L → take 64 (drop (64 * k) (onto t (records (standing r) L))) ≡ recordOf (standing r) L (at L k)
-slot r L t k l = slot-of r L L (drop (length (records (standing r) L)) t) k l
+  pub slot : (L : List (List ℕ)) (t : List ℕ) (k : ℕ) → k < length L → take (f .bytes) (drop (f .bytes * k) (onto t (records f (standing r) L))) ≡ recordOf f (standing r) L (at L k)
+  slot L t k l = slot-of L L (drop (length (records f (standing r) L)) t) k l

@@ -1,12 +1,21 @@
--- What requests 1, 2 and 5 of paper 02 leave as it was of the checker's result.
+-- What requests 1, 2, 5 and 7 of paper 02 leave as it was of the checker's result.
 -- Assumes nothing.
-use mathlib.Core.Path.{_≡_, sym, subst}
-use mathlib.Core.Logic.{_↔_}
-use mathlib.Core.List.{List}
-use Prim.Native.Nat.{ℕ}
-use Rattle.theory.specs.Pattern.{Re}
+use mathlib.Core.Path.{_≡_, refl, sym, ap, ap₂, _∙_, subst}
+use mathlib.Core.Bool.{Bool, true, false, cond}
+use mathlib.Core.Logic.{_↔_, _≢_}
+use mathlib.Core.List.{List, _++_}
+use mathlib.Core.Option.{Option, none, some}
+use Prim.Native.Nat.{ℕ, _-_, _*_, _/_, _≤_, _<_, min}
+use native.Mathlib.Omega.{arith}
+use native.Mathlib.Decide.{decLt}
+use native.Mathlib.Nat.{le-div-iff-mul-le, div-mul-le-self, mul-le-mul-left}
+use lib.ListN.{length, take, drop, replicate}
+use lib.Dec.{ltb, ltb→lt, lt→ltb}
+use Rattle.theory.specs.Pattern.{Re, count}
 use Rattle.theory.specs.Standing.{Standing, standingBy, standing}
-use Rattle.theory.specs.Records.{Needs}
+use Rattle.theory.specs.Records.{at, Needs}
+use Rattle.theory.proofs.Sizes.{order-size}
+use Rattle.theory.proofs.Tests.{T-true, not-true}
 use Rattle.theory.specs.Base.{base, Plain, bare, turnsFirst}
 use Rattle.theory.proofs.Unmoved.{plain-standing, bare-standing, eager-standing}
 use Rattle.grammar.specs.Grammar.{Alternation}
@@ -14,34 +23,138 @@ use Rattle.grammar.specs.Limits.{Reads}
 use Rattle.grammar.specs.WriteOut.{writeOut}
 use Rattle.grammar.specs.Eager.{eagerly}
 use Rattle.grammar.proofs.Eager.{unsigned-eager}
-use Rattle.verdict.specs.Checked.{Whole, due, CheckedBy, by-reader, by-records, Checked}
+use Rattle.grammar.proofs.Right.{unambiguous, not-both}
+use Rattle.grammar.proofs.Size.{writeOut-numbered, leaves-64}
+use Rattle.verdict.specs.Record.{Form, formOf, narrow, wide}
+use Rattle.verdict.specs.Table.{numberOf, body, lastByte, recordsOf, records, slots, onto}
+use Rattle.verdict.specs.Checked.{Result, alike, unlike, refused, Whole, whole, decided, due, CheckedBy, by-reader, by-records, Checked}
+use Rattle.verdict.proofs.Tables.{slot}
+use Rattle.verdict.proofs.Forms.{narrow-least, narrow-most, wide-narrow}
+use Rattle.verdict.proofs.One.{result, table, witness}
+use Rattle.verdict.proofs.Checked.{needs-one}
 
 -- Two standings of the written-out pattern that are the same give the same results.
 module _ {p t v : List ℕ} (stand : Re → List ℕ → Standing) (same : (a : Alternation) → Reads p a → standing (writeOut a) ≡ stand (writeOut a)) where
-  to : {z : Whole} → Checked p t v z → CheckedBy stand p t v z
+  to : {z : Whole} → Checked p t v z → CheckedBy formOf stand p t v z
   to (by-reader f) = by-reader f
   to (by-records {a = a} {L = L} {w = w} i n) =
-      subst (λ s. CheckedBy stand p t v (due s t v L w)) (sym (same a i)) (by-records i (subst (λ s. Needs s L w) (same a i) n))
+      subst (λ s. CheckedBy formOf stand p t v (due (formOf (writeOut a)) s t v L w)) (sym (same a i)) (by-records i (subst (λ s. Needs s L w) (same a i) n))
 
-  back : {z : Whole} → CheckedBy stand p t v z → Checked p t v z
+  back : {z : Whole} → CheckedBy formOf stand p t v z → Checked p t v z
   back (by-reader f) = by-reader f
-  back (by-records {a = a} {L = L} {w = w} i n) = subst (λ s. Checked p t v (due s t v L w)) (same a i) (by-records i (subst (λ s. Needs s L w) (sym (same a i)) n))
+  back (by-records {a = a} {L = L} {w = w} i n) = subst (λ s. Checked p t v (due (formOf (writeOut a)) s t v L w)) (same a i) (by-records i (subst (λ s. Needs s L w) (sym (same a i)) n))
 
 module _ {p t v : List ℕ} (z : Whole) where
   -- THE RESULT OF A PLAIN PATTERN IS AS IT WAS, and so is every byte of both buffers; a refused pattern's too.
-  pub plain-checked : ((a : Alternation) → Reads p a → Plain (writeOut a)) → Checked p t v z ↔ CheckedBy (standingBy base) p t v z
+  pub plain-checked : ((a : Alternation) → Reads p a → Plain (writeOut a)) → Checked p t v z ↔ CheckedBy formOf (standingBy base) p t v z
   plain-checked plain =
       let same : (a : Alternation) → Reads p a → standing (writeOut a) ≡ standingBy base (writeOut a) = λ a i k w. plain-standing (writeOut a) (plain a i) w k in
       (to (standingBy base) same, back (standingBy base) same)
 
   -- THE RESULT IS THAT OF THE PATTERN WITHOUT ITS BRACKETS, for every pattern, and every byte of both buffers.
-  pub bare-checked : Checked p t v z ↔ CheckedBy (λ r. standing (bare r)) p t v z
+  pub bare-checked : Checked p t v z ↔ CheckedBy formOf (λ r. standing (bare r)) p t v z
   bare-checked =
       let same : (a : Alternation) → Reads p a → standing (writeOut a) ≡ standing (bare (writeOut a)) = λ a i k w. bare-standing (writeOut a) w k in
       (to (λ r. standing (bare r)) same, back (λ r. standing (bare r)) same)
 
   -- THE RESULT OF A PATTERN WITHOUT LAZY REPEATS IS AS IT WAS, and so is every byte of both buffers.
-  pub eager-checked : ((a : Alternation) → Reads p a → eagerly a ≡ a) → Checked p t v z ↔ CheckedBy (standingBy turnsFirst) p t v z
+  pub eager-checked : ((a : Alternation) → Reads p a → eagerly a ≡ a) → Checked p t v z ↔ CheckedBy formOf (standingBy turnsFirst) p t v z
   eager-checked unsigned =
       let same : (a : Alternation) → Reads p a → standing (writeOut a) ≡ standingBy turnsFirst (writeOut a) = λ a i k w. eager-standing (writeOut a) (unsigned-eager a (unsigned a i)) w k in
       (to (standingBy turnsFirst) same, back (standingBy turnsFirst) same)
+
+-- What is due to a pattern that needs the records with the first lines L, by any form of records.
+module _ {p : List ℕ} {a : Alternation} {L : List (List ℕ)} {w : Option (List ℕ)} (i : Reads p a) (needs : Needs (standing (writeOut a)) L w) (form : Re → Form) {t v : List ℕ} where
+  due-only : {z : Whole} → CheckedBy form standing p t v z → z ≡ due (form (writeOut a)) (standing (writeOut a)) t v L w
+  due-only (by-reader {n = n} {q = q} f) = absurd (not-both p a n q i f)
+  due-only (by-records {a = b} {L = M} {w = u} j n) =
+      let e : b ≡ a = unambiguous p b a j i in
+      let (x, y) = needs-one (writeOut a) (writeOut-numbered a) (subst (λ c. Needs (standing (writeOut c)) M u) e n) needs in
+      ap (λ c. due (form (writeOut c)) (standing (writeOut c)) t v M u) e ∙ ap₂ (due (form (writeOut a)) (standing (writeOut a)) t v) x y
+
+  -- With enough slots it is decided.
+  decided-only : {z : Whole} → length L ≤ slots (form (writeOut a)) (length t) → CheckedBy form standing p t v z → z ≡ decided (form (writeOut a)) (standing (writeOut a)) t v L w
+  decided-only h c =
+      due-only c ∙ rw (not-true (ltb (slots (form (writeOut a)) (length t)) (length L)) λ x. omega (arith, ltb→lt (slots (form (writeOut a)) (length t)) (length L) x))
+
+-- What is decided: the form of the records counts in the table alone.
+abbrev resultDue : List ℕ → List (List ℕ) → Option (List ℕ) → Result
+resultDue v L none = alike (length L)
+resultDue v L (some w) = cond (ltb (length v) (length w)) (refused 11 0) (unlike (length L) (length w))
+
+abbrev bufferDue : List ℕ → Option (List ℕ) → List ℕ
+bufferDue v none = v
+bufferDue v (some w) = cond (ltb (length v) (length w)) v (onto v w)
+
+decided-parts : (f : Form) (stand : List ℕ → Standing) (t v : List ℕ) (L : List (List ℕ)) (w : Option (List ℕ)) → decided f stand t v L w ≡ whole (resultDue v L w) (onto t (records f stand L)) (bufferDue v w)
+decided-parts f stand t v L none = refl
+decided-parts f stand t v L (some w) = go (ltb (length v) (length w))
+  where
+    go : (c : Bool) → cond c (whole (refused 11 0) (onto t (records f stand L)) v) (whole (unlike (length L) (length w)) (onto t (records f stand L)) (onto v w))
+        ≡ whole (cond c (refused 11 0) (unlike (length L) (length w))) (onto t (records f stand L)) (cond c v (onto v w))
+    go true = refl
+    go false = refl
+
+-- Paper 01's records beside request 7's, for tables with enough slots in both forms.
+module _ {p : List ℕ} {a : Alternation} {L : List (List ℕ)} {w : Option (List ℕ)} (i : Reads p a) (needs : Needs (standing (writeOut a)) L w) {t u v : List ℕ}
+    (enough : length L ≤ slots wide (length t)) (room : length L ≤ slots (formOf (writeOut a)) (length u))
+    {x y : Result} {t′ u′ v′ w′ : List ℕ} (old : CheckedBy (λ r. wide) standing p t v (whole x t′ v′)) (new : Checked p u v (whole y u′ w′)) where
+  old-is : whole x t′ v′ ≡ whole (resultDue v L w) (onto t (records wide (standing (writeOut a)) L)) (bufferDue v w)
+  old-is = decided-only i needs (λ r. wide) enough old ∙ decided-parts wide (standing (writeOut a)) t v L w
+
+  new-is : whole y u′ w′ ≡ whole (resultDue v L w) (onto u (records (formOf (writeOut a)) (standing (writeOut a)) L)) (bufferDue v w)
+  new-is = decided-only i needs formOf room new ∙ decided-parts (formOf (writeOut a)) (standing (writeOut a)) u v L w
+
+  -- RESULT, COUNT AND WITNESS ARE THE SAME,
+  pub same-verdict : (x ≡ y) × (v′ ≡ w′)
+  same-verdict = (ap result old-is ∙ sym (ap result new-is), ap witness old-is ∙ sym (ap witness new-is))
+
+  -- AND SO ARE THE STANDINGS OF THE RECORDS AND THEIR ORDER: both tables have the records of the lines L,
+  pub same-lines : (t′ ≡ onto t (records wide (standing (writeOut a)) L)) × (u′ ≡ onto u (records (formOf (writeOut a)) (standing (writeOut a)) L))
+  same-lines = (ap table old-is, ap table new-is)
+
+  -- each the old one without the zero bytes at its end.
+  pub same-record : (k : ℕ) → k < length L
+      → take 64 (drop (64 * k) t′) ≡ take (formOf (writeOut a) .bytes) (drop (formOf (writeOut a) .bytes * k) u′) ++ replicate (64 - formOf (writeOut a) .bytes) 0
+  same-record k l =
+      let r = writeOut a in
+      let f = formOf r in
+      ap (λ z. take 64 (drop (64 * k) z)) (same-lines .0)
+      ∙ slot wide r L t k l
+      ∙ wide-narrow (count r) (standing r (at L k)) (numberOf (standing r) L (standing r (body (at L k)))) (lastByte (at L k)) (order-size r (writeOut-numbered a) (at L k)) (leaves-64 p a i)
+      ∙ ap (λ z. z ++ replicate (64 - f .bytes) 0) (sym (ap (λ z. take (f .bytes) (drop (f .bytes * k) z)) (same-lines .1) ∙ slot f r L u k l))
+
+-- The narrow form has no fewer slots than the wide one.
+pub more-slots : (n m : ℕ) → n ≤ 64 → slots wide m ≤ slots (narrow n) m
+unfolding slots
+more-slots n m h =
+    let w = narrow n .bytes in
+    let q = m / 64 in
+    let fit : q * w ≤ m = omega (arith, mul-le-mul-left q (narrow-most n h), div-mul-le-self m 64) in
+    let few : q ≤ m / w = le-div-iff-mul-le {k = w} {x = q} {y = m} (omega (arith, narrow-least n)) .1 fit in
+    omega arith
+
+-- NO VERDICT IS LOST: what was decided in a table with paper 01's records is decided in it, the same.
+pub verdict-stays : {p t v : List ℕ} {x : Result} {t′ v′ : List ℕ} → x ≢ refused 10 0 → CheckedBy (λ r. wide) standing p t v (whole x t′ v′) → (u : List ℕ) × Checked p t v (whole x u v′)
+verdict-stays {p} {t} {v} {x} {t′} {v′} other old = go old refl
+  where
+    go : {z : Whole} → CheckedBy (λ r. wide) standing p t v z → z ≡ whole x t′ v′ → (u : List ℕ) × Checked p t v (whole x u v′)
+    go (by-reader {n = n} {q = q} f) e = (t, subst (λ z. Checked p t v (whole (result z) t (witness z))) e (by-reader f))
+    go (by-records {a = a} {L = L} {w = w} i needs) e =
+        elim (decLt (slots wide (length t)) (length L)) [
+          | yes l ↦ (
+              let full : due wide (standing (writeOut a)) t v L w ≡ whole (refused 10 0) (onto t (recordsOf wide (standing (writeOut a)) L (take (slots wide (length t)) L))) v =
+              rw (T-true (ltb (slots wide (length t)) (length L)) (lt→ltb (slots wide (length t)) (length L) l)) in
+              absurd (other (ap result (sym e ∙ full)))
+              )
+          | no l ↦ (
+              let enough : length L ≤ slots wide (length t) = omega arith in
+              let room : length L ≤ slots (formOf (writeOut a)) (length t) = omega (arith, more-slots (count (writeOut a)) (length t) (leaves-64 p a i)) in
+              let new : Checked p t v (due (formOf (writeOut a)) (standing (writeOut a)) t v L w) = by-records i needs in
+              let is = decided-only i needs formOf room new ∙ decided-parts (formOf (writeOut a)) (standing (writeOut a)) t v L w in
+              let was = sym e ∙ decided-only i needs (λ r. wide) enough (by-records i needs) ∙ decided-parts wide (standing (writeOut a)) t v L w in (
+                onto t (records (formOf (writeOut a)) (standing (writeOut a)) L),
+                subst (λ z. Checked p t v (whole (result z) (onto t (records (formOf (writeOut a)) (standing (writeOut a)) L)) (witness z))) (sym was) (subst (Checked p t v) is new),
+              )
+              )
+        ]

@@ -13,6 +13,7 @@ use Rattle.grammar.specs.Grammar.{Alternation}
 use Rattle.grammar.specs.Limits.{Reads}
 use Rattle.grammar.specs.Refusals.{Fault}
 use Rattle.grammar.specs.WriteOut.{writeOut}
+use Rattle.verdict.specs.Record.{Form, formOf}
 use Rattle.verdict.specs.Table.{recordsOf, records, slots, onto}
 
 -- "Alike with the record count, unlike with count and witness, or a refusal" with number and place. The witness is given by its length: it stands in the buffer.
@@ -27,27 +28,28 @@ pub data Whole : Type 0 where
 
 -- L has the first lines of the records that the pattern needs, and w is the first witness if there is one. With slots enough: alike ("witness buffer kept"),
 -- 11 ("the witness is longer than its buffer; all records are written, the buffer is kept") or unlike ("written at the start of the witness buffer, the rest kept").
-abbrev pub decided : (List ℕ → Standing) → List ℕ → List ℕ → List (List ℕ) → Option (List ℕ) → Whole
-decided stand t v L none = whole (alike (length L)) (onto t (records stand L)) v
-decided stand t v L (some w) =
+abbrev pub decided : Form → (List ℕ → Standing) → List ℕ → List ℕ → List (List ℕ) → Option (List ℕ) → Whole
+decided f stand t v L none = whole (alike (length L)) (onto t (records f stand L)) v
+decided f stand t v L (some w) =
     cond (ltb (length v) (length w))
-    (whole (refused 11 0) (onto t (records stand L)) v)
-    (whole (unlike (length L) (length w)) (onto t (records stand L)) (onto v w))
+    (whole (refused 11 0) (onto t (records f stand L)) v)
+    (whole (unlike (length L) (length w)) (onto t (records f stand L)) (onto v w))
 
 -- "10: more records needed than slots; all slots hold their records, the witness buffer is kept." "11: no 10."
-abbrev pub due : (List ℕ → Standing) → List ℕ → List ℕ → List (List ℕ) → Option (List ℕ) → Whole
-due stand t v L w =
-    cond (ltb (slots (length t)) (length L))
-    (whole (refused 10 0) (onto t (recordsOf stand L (take (slots (length t)) L))) v)
-    (decided stand t v L w)
+abbrev pub due : Form → (List ℕ → Standing) → List ℕ → List ℕ → List (List ℕ) → Option (List ℕ) → Whole
+due f stand t v L w =
+    cond (ltb (slots f (length t)) (length L))
+    (whole (refused 10 0) (onto t (recordsOf f stand L (take (slots f (length t)) L))) v)
+    (decided f stand t v L w)
 
--- The result and content that is right for the pattern p, the table t and the witness buffer v, where `stand` gives each pattern's lines their standings.
+-- The result and content that is right for the pattern p, the table t and the witness buffer v, where `form` is the form of each pattern's records and `stand` gives its
+-- lines their standings.
 -- "A refused pattern goes no further than the reader": it leaves every byte.
-pub data CheckedBy (stand : Re → List ℕ → Standing) (p t v : List ℕ) : Whole → Type 0 where
-  by-reader : {n q : ℕ} → Fault p n q → CheckedBy stand p t v (whole (refused n q) t v)
+pub data CheckedBy (form : Re → Form) (stand : Re → List ℕ → Standing) (p t v : List ℕ) : Whole → Type 0 where
+  by-reader : {n q : ℕ} → Fault p n q → CheckedBy form stand p t v (whole (refused n q) t v)
   by-records : {a : Alternation} {L : List (List ℕ)} {w : Option (List ℕ)} → Reads p a → Needs (stand (writeOut a)) L w
-      → CheckedBy stand p t v (due (stand (writeOut a)) t v L w)
+      → CheckedBy form stand p t v (due (form (writeOut a)) (stand (writeOut a)) t v L w)
 
--- Judged by the order of preference.
+-- By request 7's records, and judged by the order of preference.
 abbrev pub Checked : List ℕ → List ℕ → List ℕ → Whole → Type 0
-Checked p t v z = CheckedBy standing p t v z
+Checked p t v z = CheckedBy formOf standing p t v z

@@ -1,2 +1,3 @@
 -- Definitions in the shape of code.
 pub mod Found
+pub mod Held

@@ -1,4 +1,5 @@
--- Paper 01's starred reference lines, from the bytes of the patterns; one of them as request 1 of paper 02 has it, and lines of lazy repeats.
+-- Paper 01's starred reference lines, from the bytes of the patterns; one of them as request 1 of paper 02 has it, those with a table as request 7 has them, and lines
+-- of lazy repeats.
 -- Assumes nothing.
 use mathlib.Core.Path.{_≡_}
 use Prim.Native.Nat.{ℕ}
@@ -24,15 +25,15 @@ unfoldable pub All : List Row → Type 0
 All [] = Unit {0}
 All (x ∷ l) = RowHolds x × All l
 
--- The records of `a|ab`: of the lines empty, 00, 61 and 6162.
+-- The records of `a|ab`, of 16 bytes each: of the lines empty, 00, 61 and 6162.
 abbrev pub three : List ℕ
 three =
-    (4 ∷ 0 ∷ 192 ∷ replicate 11 0) ++ (16 ∷ replicate 49 0)
-    ++ (replicate 64 0
-    ++ ((1 ∷ 128 ∷ 32 ∷ replicate 9 0) ++ (97 ∷ replicate 51 0)))
+    (4 ∷ 0 ∷ 192 ∷ replicate 11 0) ++ (16 ∷ 0 ∷ [])
+    ++ (replicate 16 0
+    ++ ((1 ∷ 128 ∷ 32 ∷ replicate 9 0) ++ (97 ∷ replicate 3 0)))
 
 abbrev pub four : List ℕ
-four = three ++ ((0 ∷ 128 ∷ replicate 9 0) ++ (2 ∷ 98 ∷ replicate 51 0))
+four = three ++ ((0 ∷ 128 ∷ replicate 9 0) ++ (2 ∷ 98 ∷ replicate 3 0))
 
 abbrev pub a|ab : List ℕ
 a|ab = 97 ∷ 124 ∷ 97 ∷ 98 ∷ []
@@ -45,9 +46,9 @@ empty-or-a = 40 ∷ 124 ∷ 97 ∷ 41 ∷ 42 ∷ []
 abbrev pub lazy-a : List ℕ
 lazy-a = 97 ∷ 42 ∷ 63 ∷ []
 
--- The records of both: of the lines empty, 00 and 61.
+-- The records of both, of 14 bytes each: of the lines empty, 00 and 61.
 abbrev pub three-loops : List ℕ
-three-loops = (1 ∷ 128 ∷ 128 ∷ replicate 61 0) ++ (replicate 64 0 ++ ((0 ∷ 128 ∷ 128 ∷ replicate 9 0) ++ (97 ∷ replicate 51 0)))
+three-loops = (1 ∷ 128 ∷ 128 ∷ replicate 11 0) ++ (replicate 14 0 ++ ((0 ∷ 128 ∷ 128 ∷ replicate 9 0) ++ (97 ∷ 0 ∷ [])))
 
 unfoldable pub starred : List Row
 starred =
@@ -63,10 +64,10 @@ starred =
     ∷ cuts lazy-a (97 ∷ 97 ∷ []) (span 0 0) (span 0 2)
     ∷ cuts (40 ∷ 97 ∷ 124 ∷ 97 ∷ 98 ∷ 41 ∷ 63 ∷ 63 ∷ []) (97 ∷ 98 ∷ []) (span 0 0) (span 0 2)  -- (a|ab)??
     ∷ cuts (97 ∷ 123 ∷ 49 ∷ 44 ∷ 51 ∷ 125 ∷ 63 ∷ 98 ∷ []) (97 ∷ 97 ∷ 98 ∷ []) (span 0 3) (span 0 3)  -- a{1,3}?b
-    ∷ checks a|ab 256 1024 (unlike 4 2) four (97 ∷ 98 ∷ [])
-    ∷ checks a|ab 255 1024 (refused 10 0) three []
-    ∷ checks a|ab 256 1 (refused 11 0) four []
-    ∷ checks empty-or-a 192 1 (unlike 3 1) three-loops (97 ∷ [])
-    ∷ checks lazy-a 192 1 (unlike 3 1) three-loops (97 ∷ [])
-    ∷ checks (40 ∷ 41 ∷ []) 65536 1024 (alike 2) ((1 ∷ 128 ∷ replicate 62 0) ++ replicate 64 0) []  -- ()
+    ∷ checks a|ab 64 5041 (unlike 4 2) four (97 ∷ 98 ∷ [])  -- "now gives its verdict in 64 bytes of table", in place of paper 01's 256,
+    ∷ checks a|ab 63 5041 (refused 10 0) three []  -- "and 10 in 63", in place of 255
+    ∷ checks a|ab 64 1 (refused 11 0) four []
+    ∷ checks empty-or-a 42 1 (unlike 3 1) three-loops (97 ∷ [])
+    ∷ checks lazy-a 42 1 (unlike 3 1) three-loops (97 ∷ [])
+    ∷ checks (40 ∷ 41 ∷ []) 65536 5041 (alike 2) ((1 ∷ 128 ∷ replicate 11 0) ++ replicate 13 0) []  -- (), whose records have 13 bytes
     ∷ []

@@ -1,18 +1,22 @@
--- The numbers that the library hands over are the lengths of the reader, the spans of the matchers, and the fields.
+-- The numbers that the library hands over are the lengths of the reader, the bytes of a record, the spans of the matchers, and the fields.
 -- Assumes nothing.
-use mathlib.Core.Path.{_≡_, sym, ap, _∙_}
-use Prim.Native.Nat.{ℕ, _+_}
+use mathlib.Core.Path.{_≡_, sym, ap, ap₂, _∙_}
+use Prim.Native.Nat.{ℕ, _+_, min}
 use mathlib.Core.Bool.{Bool, cond}
 use mathlib.Core.List.{List, [], _∷_}
+use native.Mathlib.Nat.{min-eq-left}
 use borrow.Author.Tests.{eq-eqb, ne-eqb}
+use Rattle.theory.specs.Pattern.{count}
 use Rattle.theory.specs.Spans.{nowhere, span}
 use Rattle.grammar.specs.Refusals as Due
+use Rattle.grammar.specs.WriteOut.{writeOut}
+use Rattle.verdict.specs.Record.{narrow}
 use Rattle.lengths.specs.Lengths.{lengths}
 use Rattle.lengths.specs.Code.{longestOf, isLimited, bytesOf}
 use Rattle.reader.specs.declared.Answer.the-variants.{Accepted, Refused}
 use Rattle.reader.specs.declared.Reading.{Reading}
 use Rattle.reader.specs.Reading.{ReadRight}
-use Rattle.reader.proofs.Laws.{accepted-lengths, refused-fault}
+use Rattle.reader.proofs.Laws.{accepted-reads, accepted-leaves, accepted-holds, accepted-lengths, refused-fault}
 use Rattle.traces.specs.Fields.{absent, fieldFrom}
 use Rattle.fields.specs.declared.Piece.{Piece}
 use Rattle.fields.specs.Cuts.{placeIn, Lent}
@@ -23,7 +27,8 @@ use Rattle.matchers.specs.declared.Spans.the-variants.{Nowhere, Located}
 use Rattle.matchers.specs.Cuts.{greedyOf, posixOf}
 use Rattle.matchers.specs.Cuts as Matchers
 use Rattle.yindorka.specs.declared.Refusal.{Refusal}
-use Rattle.yindorka.specs.Calls.{refusalOf, Measures, located, none, Cuts, spanned, nothing, CutsFields}
+use Rattle.yindorka.specs.declared.Counted.{Counted}
+use Rattle.yindorka.specs.Calls.{refusalOf, countedOf, Measures, Sizes, located, none, Cuts, spanned, nothing, CutsFields}
 
 module _ {p : List ℕ} {r : Reading} (read : ReadRight p r) {x : Refusal} (is : x ≡ refusalOf (r .answer)) where
   -- The lengths of an accepted pattern,
@@ -41,6 +46,18 @@ module _ {p : List ℕ} {r : Reading} (read : ReadRight p r) {x : Refusal} (is :
   measures-refused {n} {q} e =
       let a : x ≡ record { number = n; place = q } = is ∙ ap refusalOf e in
       record { answer = Due.refused n q; right = refused-fault read e; is = λ i. record { number = a i .number; place = a i .place; least = 0; limited = 0; greatest = 0 } }
+
+module _ {p : List ℕ} {r : Reading} (read : ReadRight p r) {x : Counted} where
+  -- The bytes of an accepted pattern's records,
+  pub sizes-accepted : {n : ℕ} → r .answer ≡ Accepted → n ≡ narrow (min (r .pattern .leaves) 64) .bytes → x ≡ countedOf (r .answer) n → Sizes p x
+  sizes-accepted {n} e f g =
+      let (t, reads, d) = accepted-reads read e in
+      let leaves : min (r .pattern .leaves) 64 ≡ count (writeOut t) = ap (λ n. min n 64) (accepted-holds read e .leaves) ∙ min-eq-left (accepted-leaves read e .1) ∙ ap count d in
+      record { answer = Due.accepted t; right = reads; is = g ∙ ap₂ countedOf e (f ∙ ap (λ n. narrow n .bytes) leaves) }
+
+  -- and of a refused one's none.
+  pub sizes-refused : {n q : ℕ} → r .answer ≡ Refused n q → x ≡ countedOf (r .answer) 0 → Sizes p x
+  sizes-refused {n} {q} e g = record { answer = Due.refused n q; right = refused-fault read e; is = g ∙ ap (λ a. countedOf a 0) e }
 
 module _ {t : Tables} {w : List ℕ} {s : Spans} (cut : Matchers.Cuts t w s) {old : List ℕ} where
   -- No span,

@@ -17,6 +17,8 @@ use Rattle.theory.specs.Pattern.{Re}
 use Rattle.theory.specs.Spans.{nowhere, span, greedy, posix}
 use Rattle.grammar.specs.Refusals.{Right}
 use Rattle.grammar.specs.Refusals as Due
+use Rattle.grammar.specs.WriteOut.{writeOut}
+use Rattle.verdict.specs.Record.{formOf}
 use Rattle.lengths.specs.Lengths.{lengths}
 use Rattle.lengths.specs.Code.{isLimited, bytesOf}
 use Rattle.matchers.specs.Tables.{Tables, Ready}
@@ -91,6 +93,16 @@ pub record Measures (p : List ℕ) (r : Lengths) : Type 0 where
   pub answer : Due.Answer
   pub right : Right p answer
   pub is : r ≡ lengthsOf answer
+
+-- Number 0: how many bytes a record of the pattern has (request 7). Else the refusal, and none.
+abbrev pub sizeOf : Due.Answer → Counted
+sizeOf (Due.accepted t) = record { number = 0; place = 0; count = formOf (writeOut t) .bytes }
+sizeOf (Due.refused n q) = record { number = n; place = q; count = 0 }
+
+pub record Sizes (p : List ℕ) (r : Counted) : Type 0 where
+  pub answer : Due.Answer
+  pub right : Right p answer
+  pub is : r ≡ sizeOf answer
 
 -- The groups of an accepted pattern, by their numbers; the arrays of a refused one are kept.
 pub record ShowsGroups (p group lowest : List ℕ) (r : Counted) (group′ lowest′ : List ℕ) : Type 0 where

@@ -1,10 +1,10 @@
-// The library for other languages: how long a match of a pattern can be, its tables, both spans of a line by them, the fields of its greedy span, its byte groups, and the checker. No function keeps a state, allocates or
+// The library for other languages: how long a match of a pattern can be, how many bytes its records have, its tables, both spans of a line by them, the fields of its greedy span, its byte groups, and the checker. No function keeps a state, allocates or
 // fails: a pattern that is no pattern is refused.
 ghost use mathlib.Core.Path.{_≡_};
 ghost use mathlib.Core.Bool.{cond};
 ghost use Rattle.matchers.specs.Tables.{tables};
 ghost use Rattle.fields.specs.Cuts.{lent};
-ghost use Rattle.yindorka.specs.Calls.{refusalOf, countedOf, Measures, Prepares, Cuts, PreparesFields, CutsFields, ShowsGroups, RewritesLine, Decided, outcomeOf, Told};
+ghost use Rattle.yindorka.specs.Calls.{refusalOf, countedOf, Measures, Sizes, Prepares, Cuts, PreparesFields, CutsFields, ShowsGroups, RewritesLine, Decided, outcomeOf, Told};
 use checker::Verdict;
 use matchers::Spans;
 use reader::Answer;
@@ -16,7 +16,7 @@ pub struct Refusal {
     pub place: usize,
 }
 
-// Number 0 for an accepted pattern, with how many fields or groups it has; else paper 01's number, or 12 for fields, and the place.
+// Number 0 for an accepted pattern, with how many fields or groups it has, or bytes its records; else paper 01's number, or 12 for fields, and the place.
 #[repr(C)]
 pub struct Counted {
     pub number: usize,
@@ -119,6 +119,20 @@ pub extern "C" fn yindorka_lengths(pattern: &[u8]) -> Lengths
         limited: flag(lengths::is_limited(greatest)),
         greatest: lengths::bytes_of(greatest),
     }
+}
+
+// How many bytes a record of a pattern has: as many slots its table has as that goes into its length.
+#[no_mangle]
+pub extern "C" fn yindorka_record_bytes(pattern: &[u8]) -> Counted
+    ensures sized { λ r. ⌜ Sizes (now (pattern .entry)) r ⌝ }
+{
+    let reading = reader::read(pattern);
+    let answer = reading.answer;
+    let leaves = reading.pattern.leaves;
+    let Answer::Accepted = answer else {
+        return counted_of(answer, 0);
+    };
+    counted_of(answer, records::width(leaves))
 }
 
 // Reads a pattern and fills its tables, which then serve any number of lines. A refused pattern leaves them as they are.
@@ -301,10 +315,10 @@ pub extern "C" fn yindorka_check_looking(
     }
 }
 
-// The version of the library: 10600 is 1.6.0.
+// The version of the library: 10700 is 1.7.0.
 #[no_mangle]
 pub extern "C" fn yindorka_version() -> u32
-    ensures version { λ r. ⌜ r ≡ 10600 ⌝ }
+    ensures version { λ r. ⌜ r ≡ 10700 ⌝ }
 {
-    10600
+    10700
 }

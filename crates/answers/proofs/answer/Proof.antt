@@ -15,7 +15,7 @@ returns-2 : tie.Need-returns-2
 returns-2 c = let l = c .judge2 .ensures in rw (c .before .before .before .before .enum-told2 .given .1) (l .0, l .1, omega (arith, l .2), l .3)
 
 returns-3 : tie.Need-returns-3
-returns-3 c = let l = c .list-groups .ensures in rw (c .before .before .enum-told3 .given .1) (l .0, (l .1, refl), l .2, l .3)
+returns-3 c = let l = c .list-groups .ensures in rw (c .before .before .enum-told3 .given .1) (l .0, (l .1, refl), omega (arith, l .2), l .3)
 
 returns-4 : tie.Need-returns-4
 returns-4 c =

@@ -32,7 +32,7 @@ loop-again c =
     let l = c7 .before .before .before .before .before .before .before .loop in
     let n = c7 .before .next-line .ensures in
     let a = c .answer .ensures in
-    let room = leb-true (l .s .used + 5383) 65536 (sym (c7 .before .before .before .before .has-room .ensures) ∙ c7 .before .before .before .if2 .taken) in
+    let room = leb-true (l .s .used + 20417) 65536 (sym (c7 .before .before .before .before .has-room .ensures) ∙ c7 .before .before .before .if2 .taken) in
     serving-next (l .inv) n (c7 .if3 .taken) (rw (c .before .before .before .before .first-of .ensures) at (a .1)) (a .3) (omega (arith, room, n .used, a .2))
 
 loop-less-2 : tie.Need-loop-less-2 Inv-loop μ-loop
@@ -45,7 +45,7 @@ loop-again-2 c =
 returns : tie.Need-returns Inv-loop μ-loop
 returns c =
     let l = c .before .before .before .before .loop in
-    served (l .inv) (inr (leb-false (l .s .used + 5383) 65536 (sym (c .before .has-room .ensures) ∙ c .if2 .left)))
+    served (l .inv) (inr (leb-false (l .s .used + 20417) 65536 (sym (c .before .has-room .ensures) ∙ c .if2 .left)))
 
 returns-2 : tie.Need-returns-2 Inv-loop μ-loop
 returns-2 c = let l = c .before .before .loop in served (l .inv) (inl (at-its-end (c .before .before .before .args .chunk .now) (l .s) (omega arith)))

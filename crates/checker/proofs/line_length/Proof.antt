@@ -7,10 +7,10 @@ use Rattle.checker.proofs.line_length.Statement.{statement}
 use Rattle.checker.proofs.line_length.Tie as tie
 
 abbrev Inv-loop : tie.InvT-loop
-Inv-loop table k k₀ n₀ k' n = Counting table k k' n
+Inv-loop table width k k₀ n₀ k' n = Counting width table k k' n
 
 abbrev μ-loop : tie.MeasureT-loop
-μ-loop table k k₀ n₀ k' n = k'
+μ-loop table width k k₀ n₀ k' n = k'
 
 loop-holds : tie.Need-loop-holds Inv-loop μ-loop
 loop-holds c = count-start (c .before .pre)

@@ -7,10 +7,10 @@ use Rattle.checker.proofs.write_line.Statement.{statement}
 use Rattle.checker.proofs.write_line.Tie as tie
 
 abbrev Inv-loop : tie.InvT-loop
-Inv-loop table k n witness₀ k₀ i₀ witness k' i = Writing table k k' i witness₀ witness
+Inv-loop table width k n witness₀ k₀ i₀ witness k' i = Writing width table k k' i witness₀ witness
 
 abbrev μ-loop : tie.MeasureT-loop
-μ-loop table k n witness₀ k₀ i₀ witness k' i = k'
+μ-loop table width k n witness₀ k₀ i₀ witness k' i = k'
 
 loop-holds : tie.Need-loop-holds Inv-loop μ-loop
 loop-holds c = write-start (c .before .before .pre)

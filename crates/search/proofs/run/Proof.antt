@@ -10,11 +10,11 @@ use Rattle.search.proofs.run.Statement.{statement}
 use Rattle.search.proofs.run.Tie as tie
 
 abbrev Inv-loop : tie.InvT-loop
-Inv-loop table₀ slots lowest count masks rows lens sets ends n₀ looking₀ q₀ table n looking q =
-    AtRecord (arrays masks rows lens sets ends) (Grouping masks lowest count) slots table₀ q n looking table
+Inv-loop table₀ width slots lowest count masks rows lens sets ends n₀ looking₀ q₀ table n looking q =
+    AtRecord (arrays masks rows lens sets ends) (Grouping masks lowest count) width slots table₀ q n looking table
 
 abbrev μ-loop : tie.MeasureT-loop
-μ-loop table₀ slots lowest count masks rows lens sets ends n₀ looking₀ q₀ table n looking q = slots - q
+μ-loop table₀ width slots lowest count masks rows lens sets ends n₀ looking₀ q₀ table n looking q = slots - q
 
 loop-holds : tie.Need-loop-holds Inv-loop μ-loop
 loop-holds c = record-start (c .before .pre .0)

@@ -9,11 +9,11 @@ use Rattle.search.proofs.work.Statement.{statement}
 use Rattle.search.proofs.work.Tie as tie
 
 abbrev Inv-loop : tie.InvT-loop
-Inv-loop table₀ q n slots lowest count masks rows lens sets ends s n₀ looking₀ k₀ table n' looking' k =
-    AtGroup (arrays masks rows lens sets ends) lowest count q n slots looking₀ table₀ s k n' looking' table
+Inv-loop table₀ q n width slots lowest count masks rows lens sets ends s n₀ looking₀ k₀ table n' looking' k =
+    AtGroup (arrays masks rows lens sets ends) lowest count q n width slots looking₀ table₀ s k n' looking' table
 
 abbrev μ-loop : tie.MeasureT-loop
-μ-loop table₀ q n slots lowest count masks rows lens sets ends s n₀ looking₀ k₀ table n' looking' k = count - k
+μ-loop table₀ q n width slots lowest count masks rows lens sets ends s n₀ looking₀ k₀ table n' looking' k = count - k
 
 loop-holds : tie.Need-loop-holds Inv-loop μ-loop
 loop-holds c =
