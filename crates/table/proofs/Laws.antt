@@ -6,7 +6,7 @@ use Prim.Native.Nat.{ℕ, zero, suc, _+_, _*_, _/_, _≤_, _<_}
 use mathlib.Core.Bool.{true}
 use mathlib.Core.List.{List, _++_}
 use native.Mathlib.Omega.{arith}
-use native.Mathlib.Nat.{div-mul-le-self, mul-comm, mul-suc, mul-zero, mul-le-mul-left}
+use native.Mathlib.Nat.{mul-suc, mul-zero}
 use native.Mathlib.Decide.{decLt}
 use borrow.Author.Tests.{lt-ltb, le-ltb}
 use lib.ListN.{length, getD, take, drop, length-drop}
@@ -14,8 +14,9 @@ use lib.Seq.{sets, length-sets, length-take-le, getD-take, getD-drop, take-at, d
 use Rattle.theory.specs.Pattern.{Re, Numbered, count}
 use Rattle.theory.specs.Standing.{Standing, standing}
 use Rattle.verdict.specs.Record.{Form, recordBytes}
-use Rattle.verdict.proofs.Forms.{front, back, origins, front-size, record-parts}
-use Rattle.verdict.proofs.Tables.{record-size}
+use Rattle.verdict.proofs.Packed.{origins}
+use Rattle.verdict.proofs.Forms.{front, back, front-size, record-parts}
+use Rattle.verdict.proofs.Tables.{record-size, times-fit}
 use Rattle.verdict.proofs.Injective.{record-injective}
 use Rattle.table.specs.Slots.{slotCount, slotAt, ifSlot, put}
 use Rattle.table.specs.Looks.{sameStanding}
@@ -43,8 +44,7 @@ slots-width w n k h =
 pub slot-fits : (w n k : ℕ) → k < slotCount w n → w * k + w ≤ n
 slot-fits w n k h =
     let (least, most) = slots-width w n k h in
-    let next : suc k ≤ n / w = omega (arith, slots-are w n least most) in
-    omega (arith, mul-suc w k, mul-le-mul-left w next, mul-comm w (n / w), div-mul-le-self n w)
+    omega (arith, mul-suc w k, times-fit w n (suc k) (omega (arith, slots-are w n least most)))
 
 pub slots-fit : (w n k : ℕ) → k ≤ slotCount w n → w * k ≤ n
 slots-fit w n zero h = omega (arith, mul-zero w)

@@ -1,18 +1,18 @@
 -- The forms of a record: its three parts in each form, what the narrow one has room for, and that it is the wide one without the zero bytes at its end.
 -- Assumes nothing.
 use mathlib.Core.Path.{_≡_, refl, sym, ap, ap₂, _∙_}
-use Prim.Native.Nat.{ℕ, zero, suc, _+_, _-_, _*_, _/_, _%_, _≤_}
-use mathlib.Core.List.{List, [], _∷_, _++_, append-assoc, append-nil}
+use Prim.Native.Nat.{ℕ, zero, suc, _+_, _-_, _*_, _/_, _≤_}
+use mathlib.Core.List.{List, [], _∷_, _++_, append-assoc}
 use native.Mathlib.Omega.{arith}
 use native.Mathlib.Nat.{zero-div, suc-add, zero-add}
-use lib.ListN.{length, take, drop, length-append, length-drop, take-append-drop, replicate, replicate-append-replicate}
-use lib.Seq.{length-take-le, take-at}
+use lib.ListN.{length, take, length-append, replicate, replicate-append-replicate}
+use lib.Seq.{take-at}
 use Rattle.theory.specs.Standing.{Standing, from}
-use Rattle.verdict.specs.Bits.{bits, bit, fromBits, pack}
+use Rattle.verdict.specs.Bits.{bits, bit, pack}
 use Rattle.verdict.specs.Record.{Form, narrow, wide, spareBits, setBits, sixBits, recordBits, recordBytes}
 use Rattle.verdict.specs.Code.Held.{held}
 use Rattle.verdict.proofs.Tables.{length-bits, length-bit, length-pack, length-record, record-size}
-use Rattle.verdict.proofs.Packed.{pack-byte, bits-split, number-one}
+use Rattle.verdict.proofs.Packed.{origins, pack-more, pack-origins}
 
 -- The narrow form of n leaves has room for them, and 13 to 61 bytes if they are at most 64.
 pub narrow-room : (n : ℕ) → 104 + 6 * n ≤ 8 * narrow n .bytes
@@ -48,18 +48,6 @@ six-more zero m (p ∷ l) h = absurd (omega arith)
 six-more (suc n) m [] h = rw suc-add (ap (λ x. bits 6 0 ++ x) (six-more n m [] (omega arith)) ∙ sym (append-assoc (bits 6 0) (sixBits n []) (replicate (6 * m) 0)))
 six-more (suc n) m (p ∷ l) h = rw suc-add (ap (λ x. bits 6 p ++ x) (six-more n m l (omega arith)) ∙ sym (append-assoc (bits 6 p) (sixBits n l) (replicate (6 * m) 0)))
 
--- Bits of whole bytes, and more bits.
-pack-more : (a b : ℕ) (x y : List ℕ) → length x ≡ 8 * a → pack (a + b) (x ++ y) ≡ pack a x ++ pack b y
-unfolding pack
-pack-more zero b [] y h = rw zero-add
-pack-more zero b (c ∷ x) y h = absurd (omega arith)
-pack-more (suc a) b x y h =
-    let first : length (take 8 x) ≡ 8 = length-take-le 8 x (omega arith) in
-    let split : x ++ y ≡ take 8 x ++ (drop 8 x ++ y) = ap (λ z. z ++ y) (sym (take-append-drop 8 x)) ∙ append-assoc (take 8 x) (drop 8 x) y in
-    ap₂ pack (suc-add a b) split
-    ∙ pack-byte (a + b) (take 8 x) (drop 8 x ++ y) first
-    ∙ ap (λ z. fromBits 0 (take 8 x) ∷ z) (pack-more a b (drop 8 x) y (omega (arith, length-drop 8 x)))
-
 -- What stands before the origin fields, in 10 bytes, and what stands after them.
 frontBits : Standing → List ℕ
 frontBits s = bits 7 (length (s .order)) ++ (bit (s .first) ++ (bit (s .some) ++ (bits 7 0 ++ setBits (s .all) (from 0 64))))
@@ -73,10 +61,6 @@ front s = pack 10 (frontBits s)
 pub back : Form → Standing → List ℕ
 back f s = pack (f .bytes - 13) (backBits f s)
 
--- The origin fields.
-abbrev pub origins : ℕ → ℕ → List ℕ
-origins o b = (o / 256 % 256) ∷ (o % 256) ∷ (b % 256) ∷ []
-
 pub front-size : (s : Standing) → length (front s) ≡ 10
 unfolding front
 front-size s = length-pack 10 (frontBits s)
@@ -84,16 +68,6 @@ front-size s = length-pack 10 (frontBits s)
 front-80 : (s : Standing) → length (frontBits s) ≡ 80
 unfolding frontBits
 front-80 s = simp (length-append, length-bits, length-bit) refl
-
-pack-origins : (o b : ℕ) → pack 3 (bits 16 o ++ bits 8 b) ≡ origins o b
-unfolding pack
-pack-origins o b =
-    ap (pack 3) (ap (λ x. x ++ bits 8 b) (bits-split 8 8 o) ∙ append-assoc (bits 8 (o / 256)) (bits 8 o) (bits 8 b))
-    ∙ pack-byte 2 (bits 8 (o / 256)) _ (length-bits 8 (o / 256))
-    ∙ ap₂ _∷_ (number-one 8 (o / 256))
-    (pack-byte 1 (bits 8 o) _ (length-bits 8 o)
-    ∙ ap₂ _∷_ (number-one 8 o)
-    (ap (pack 1) (sym (append-nil (bits 8 b))) ∙ pack-byte 0 (bits 8 b) [] (length-bits 8 b) ∙ ap (λ x. x ∷ []) (number-one 8 b)))
 
 -- A RECORD IN THREE PARTS: the standing is told before and after the origin fields.
 pub record-parts : (f : Form) → 13 ≤ f .bytes → (s : Standing) (o b : ℕ) → recordBytes f s o b ≡ front s ++ (origins o b ++ back f s)

@@ -6,8 +6,8 @@ use mathlib.Core.Bool.{Bool, true, false}
 use mathlib.Core.List.{List, [], _∷_, _++_, append-assoc, append-nil}
 use native.Mathlib.Omega.{arith}
 use native.Mathlib.Nat.{mod-lt, mod-add-div, pow-succ', pow-zero, mul-assoc, mul-one, one-mul, zero-mul, mul-comm, add-mul, mul-add, zero-add, add-zero, suc-add, div-div-eq-div-mul, one-le-pow}
-use lib.ListN.{length, drop, getD, length-append}
-use lib.Seq.{take-at, drop-at}
+use lib.ListN.{length, take, drop, getD, length-append, length-drop, take-append-drop}
+use lib.Seq.{take-at, drop-at, length-take-le}
 use Rattle.theory.specs.Standing.{Standing, member, from}
 use Rattle.verdict.specs.Bits.{bits, bit, fromBits, pack}
 use Rattle.verdict.specs.Record.{setBits, sixBits, wide, recordBits, recordBytes}
@@ -62,6 +62,18 @@ bits-split (suc a) b n =
 pub pack-byte : (n : ℕ) (x y : List ℕ) → length x ≡ 8 → pack (suc n) (x ++ y) ≡ fromBits 0 x ∷ pack n y
 unfolding pack
 pack-byte n x y e = ap₂ _∷_ (ap (fromBits 0) (take-at x y 8 e)) (ap (pack n) (drop-at x y 8 e))
+
+-- Bits of whole bytes, and more bits.
+pub pack-more : (a b : ℕ) (x y : List ℕ) → length x ≡ 8 * a → pack (a + b) (x ++ y) ≡ pack a x ++ pack b y
+unfolding pack
+pack-more zero b [] y h = rw zero-add
+pack-more zero b (c ∷ x) y h = absurd (omega arith)
+pack-more (suc a) b x y h =
+    let first : length (take 8 x) ≡ 8 = length-take-le 8 x (omega arith) in
+    let split : x ++ y ≡ take 8 x ++ (drop 8 x ++ y) = ap (λ z. z ++ y) (sym (take-append-drop 8 x)) ∙ append-assoc (take 8 x) (drop 8 x) y in
+    ap₂ pack (suc-add a b) split
+    ∙ pack-byte (a + b) (take 8 x) (drop 8 x ++ y) first
+    ∙ ap (λ z. fromBits 0 (take 8 x) ∷ z) (pack-more a b (drop 8 x) y (omega (arith, length-drop 8 x)))
 
 number-last : (d n m : ℕ) → fromBits m (bits d n) ≡ m * 2 ^ d + n % 2 ^ d
 number-last d n m = ap (fromBits m) (sym (append-nil (bits d n))) ∙ number-bits d n m []
@@ -170,15 +182,25 @@ zeros : pack 3 (bits 24 0) ≡ 0 ∷ 0 ∷ 0 ∷ []
 unfolding pack bits
 zeros = refl
 
+-- The origin fields.
+abbrev pub origins : ℕ → ℕ → List ℕ
+origins o b = (o / 256 % 256) ∷ (o % 256) ∷ (b % 256) ∷ []
+
+pub pack-origins : (o b : ℕ) → pack 3 (bits 16 o ++ bits 8 b) ≡ origins o b
+unfolding pack
+pack-origins o b =
+    ap (pack 3) (ap (λ x. x ++ bits 8 b) (bits-split 8 8 o) ∙ append-assoc (bits 8 (o / 256)) (bits 8 o) (bits 8 b))
+    ∙ pack-byte 2 (bits 8 (o / 256)) _ (length-bits 8 (o / 256))
+    ∙ ap₂ _∷_ (number-one 8 (o / 256))
+    (pack-byte 1 (bits 8 o) _ (length-bits 8 o)
+    ∙ ap₂ _∷_ (number-one 8 o)
+    (ap (pack 1) (sym (append-nil (bits 8 b))) ∙ pack-byte 0 (bits 8 b) [] (length-bits 8 b) ∙ ap (λ x. x ∷ []) (number-one 8 b)))
+
 rest : (o b : ℕ) (l : List ℕ) → pack 54 (bits 16 o ++ (bits 8 b ++ (sixBits 64 l ++ bits 24 0))) ≡ (o / 256 % 256) ∷ (o % 256) ∷ (b % 256) ∷ (sixBytes 16 l ++ (0 ∷ 0 ∷ 0 ∷ []))
 rest o b l =
-    ap (pack 54) (ap (λ x. x ++ (bits 8 b ++ (sixBits 64 l ++ bits 24 0))) (bits-split 8 8 o) ∙ append-assoc (bits 8 (o / 256)) (bits 8 o) _)
-    ∙ pack-byte 53 (bits 8 (o / 256)) _ (length-bits 8 (o / 256))
-    ∙ ap₂ _∷_ (number-one 8 (o / 256))
-    (pack-byte 52 (bits 8 o) _ (length-bits 8 o)
-    ∙ ap₂ _∷_ (number-one 8 o)
-    (pack-byte 51 (bits 8 b) _ (length-bits 8 b)
-    ∙ ap₂ _∷_ (number-one 8 b) (pack-six 16 3 l (bits 24 0) ∙ ap (λ x. sixBytes 16 l ++ x) zeros)))
+    ap (pack 54) (sym (append-assoc (bits 16 o) (bits 8 b) (sixBits 64 l ++ bits 24 0)))
+    ∙ pack-more 3 51 (bits 16 o ++ bits 8 b) (sixBits 64 l ++ bits 24 0) (length-two 16 o 8 b)
+    ∙ ap₂ _++_ (pack-origins o b) (pack-six 16 3 l (bits 24 0) ∙ ap (λ x. sixBytes 16 l ++ x) zeros)
 
 pub packed : (s : Standing) (origin byte : ℕ)
     → recordBytes wide s origin byte

@@ -6,7 +6,7 @@ use Prim.Native.Nat.{ℕ, zero, suc, _+_, _*_, _/_, _≤_, _<_}
 use mathlib.Core.Bool.{Bool, true, false, _&&_, cond}
 use mathlib.Core.List.{List, [], _∷_, _++_, append-nil, append-assoc}
 use native.Mathlib.Omega.{arith}
-use native.Mathlib.Nat.{div-mul-le-self, mul-comm, mul-suc, mul-zero, mul-le-mul-left, min-le-left, min-le-right, zero-add, le-trans}
+use native.Mathlib.Nat.{mul-div-le, mul-suc, mul-zero, mul-le-mul-left, min-le-left, min-le-right, zero-add}
 use lib.ListN.{length, take, drop, length-append, length-drop}
 use lib.Seq.{sets, sets-eq, take-at, take-append-seam, drop-append-add, drop-drop}
 use lib.Dec.{T, eqb, eqb→eq, eqb-refl}
@@ -55,12 +55,14 @@ records-size f r L [] = sym (mul-zero (f .bytes))
 records-size f r L (w ∷ M) =
     omega (arith, length-append (recordOf f (standing r) L w) (recordsOf f (standing r) L M), record-size f (standing r w) (numberOf (standing r) L (standing r (body w))) (lastByte w), records-size f r L M, mul-suc (f .bytes) (length M))
 
--- Its slots are in the table: so are the bytes of k records, where there are k slots.
+-- k times w bytes are among n, if no more are asked for than go into them.
+pub times-fit : (w n k : ℕ) → k ≤ n / w → w * k ≤ n
+times-fit w n k h = omega (arith, mul-le-mul-left w h, mul-div-le n w)
+
+-- So the slots are in the table.
 pub slots-fit : (f : Form) (n k : ℕ) → k ≤ slots f n → f .bytes * k ≤ n
 unfolding slots
-slots-fit f n k h =
-    let fit : k ≤ n / f .bytes = omega (arith, min-le-left (n / f .bytes) 65535) in
-    omega (arith, mul-le-mul-left (f .bytes) fit, mul-comm (f .bytes) (n / f .bytes), div-mul-le-self n (f .bytes))
+slots-fit f n k h = times-fit (f .bytes) n k (omega (arith, min-le-left (n / f .bytes) 65535))
 
 pub slots-most : (f : Form) (n : ℕ) → slots f n ≤ 65535
 unfolding slots

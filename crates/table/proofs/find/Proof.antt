@@ -72,24 +72,28 @@ ended c =
     let a = c .before .before .before .before .before .before .args in
     c .comparison-end .ensures ∙ ap (λ i. comparisonEnd (a .width) (take (a .width) (drop i (a .table .now))) (take (a .width) (a .v .now))) (c .before .before .loop .inv .place)
 
+-- Its number.
+number : (c : tie.In-loop Inv-loop μ-loop) → c .before .loop .at / c .before .before .before .before .before .args .width ≡ c .before .loop .inv .k
+number c =
+    let a = c .before .before .before .before .before .args in
+    let l = c .before .loop in
+    let f = fits c in
+    ap (λ i. i / a .width) (l .inv .place) ∙ mul-div-cancel-left (l .inv .k) {n = a .width} (omega arith)
+
 returns : tie.Need-returns Inv-loop μ-loop
 returns c =
     let a = c .before .before .before .before .before .before .before .args in
     let l = c .before .before .before .loop in
-    let f = fits (c .before .before) in
-    let number : l .at / a .width ≡ l .inv .k = ap (λ i. i / a .width) (l .inv .place) ∙ mul-div-cancel-left (l .inv .k) {n = a .width} (omega arith) in
-    ap found-at number ∙ look-ends _ _ _ _ (l .inv .k) (here (c .before .before)) (eq-eqb _ (a .width) (sym (ended (c .before)) ∙ c .if1 .taken)) ∙ l .inv .left
+    ap found-at (number (c .before .before)) ∙ look-ends _ _ _ _ (l .inv .k) (here (c .before .before)) (eq-eqb _ (a .width) (sym (ended (c .before)) ∙ c .if1 .taken)) ∙ l .inv .left
 
 div-k : tie.Need-div-k Inv-loop μ-loop
 div-k c = let f = fits (c .before .before) in search needs
 
 add-compared : tie.Need-add-t13 Inv-loop μ-loop
 add-compared c =
-    let a = c .before .before .before .before .before .before .before .args in
-    let l = c .before .before .before .loop in
     let f = fits (c .before .before) in
     let h = here (c .before .before) in
-    let number : l .at / a .width ≡ l .inv .k = ap (λ i. i / a .width) (l .inv .place) ∙ mul-div-cancel-left (l .inv .k) {n = a .width} (omega arith) in
+    let k = number (c .before .before) in
     search needs
 
 add-at : tie.Need-add-at Inv-loop μ-loop
