@@ -46,12 +46,13 @@ module _ (x y : List ℕ × List ℕ) {p q : List ℕ} (h : 255 < length p) (k :
   long-looking (searched {a = a} reads y) = absurd (not-both p a 1 255 reads (too-long p h))
 
   long-judged : {spans : Bool} {w : List ℕ} → Judged spans x p w y → Judged spans x q w y
-  long-judged {spans} {w} a = let (c, l) = long-line spans (a .verdict) w (a .checks) (a .line) in record { verdict = a .verdict; checks = c; line = l }
+  long-judged {spans} {w} a = let (c, l) = long-line spans (a .verdict) w (a .checks) (a .line) in record { lent = a .lent; verdict = a .verdict; checks = c; line = l }
 
   long-reported : {w : List ℕ} → Reported x p w y → Reported x q w y
   long-reported a =
       let (c, l) = long-line true (a .report .verdict) (a .rest) (a .reports .checks) (a .line) in
       record {
+        lent = a .lent;
         report = a .report;
         reports = record { checks = c; looks = long-looking (a .reports .looks) };
         head = a .head;

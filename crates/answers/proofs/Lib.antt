@@ -2,3 +2,4 @@
 mod Cutting
 mod Listing
 pub mod Kept
+pub mod Lent

@@ -4,6 +4,7 @@ use mathlib.Core.Path.{_≡_}
 use mathlib.Core.Bool.{Bool, true, false}
 use Prim.Native.Nat.{ℕ}
 use mathlib.Core.List.{List, [], _++_}
+use lib.ListN.{length}
 use Rattle.grammar.specs.WriteOut.{writeOut}
 use Rattle.grammar.specs.Refusals.{Right}
 use Rattle.grammar.specs.Refusals as Due
@@ -20,15 +21,21 @@ use Rattle.answers.specs.declared.Asked.the-variants.{Spans, Looking, De
 use Rattle.answers.specs.declared.Asked.the-variants as Asked
 use Rattle.answers.specs.Line.{SpansLineOf, AnswerLine}
 
+-- What a program lends for each pattern: paper 01's "65,536 bytes of table", and request 7's "5,041 bytes of witness buffer".
+abbrev pub Lends : List ℕ × List ℕ → Type 0
+Lends x = (length (x .0) ≡ 65536) × (length (x .1) ≡ 5041)
+
 -- The text w is the line of the verdict that paper 01 gives for the pattern p, with the spans of the witness and its readable form if they are asked for. Table and
 -- witness buffer, which held x, hold y then.
 pub record Judged (spans : Bool) (x : List ℕ × List ℕ) (p w : List ℕ) (y : List ℕ × List ℕ) : Type 0 where
+  pub lent : Lends x
   pub verdict : Verdict
   pub checks : Checks p (x .0) (x .1) verdict (y .0) (y .1)
   pub line : AnswerLine spans p verdict (y .1) w
 
 -- The text w says how much looking that took (request 4), and has the same line with the spans.
 pub record Reported (x : List ℕ × List ℕ) (p w : List ℕ) (y : List ℕ × List ℕ) : Type 0 where
+  pub lent : Lends x
   pub report : Report
   pub reports : Reports p (x .0) (x .1) report (y .0) (y .1)
   pub head : List ℕ
@@ -81,6 +88,6 @@ Answer Looking x p w y = Reported x p w y
 Answer Details x p w y = Detailed x p w y
 Answer Groups x p w y = Listed p w × (y ≡ x)
 
--- The answer, of at most 5,383 bytes, is added to the n bytes that the buffer `old` held.
+-- The answer, of at most 20,417 bytes, is added to the n bytes that the buffer `old` held.
 abbrev pub Answered : Asked → List ℕ × List ℕ → List ℕ → List ℕ × List ℕ → List ℕ → ℕ → List ℕ → ℕ → Type 0
 Answered asked x p y old n new m = Printed 20417 (λ w. Answer asked x p w y) old n new m

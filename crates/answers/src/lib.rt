@@ -15,8 +15,8 @@ use lines::SIZE;
 use lines::State;
 use matchers::Spans;
 
-// What is lent to the checker for each pattern: a table with 1,074 slots for 64 leaves and 5,041 for none, and a witness buffer. Each byte of a witness leads to a
-// further record, so no witness within 5,041 records is longer than the buffer.
+// What is lent to the checker for each pattern: a table with 1,074 slots for 64 leaves and 5,041 for none, and a witness buffer. A witness has fewer bytes than there
+// are records, so none is longer than the buffer (`witness-lent`).
 pub const TABLE: usize = 65536;
 
 pub const WITNESS: usize = 5041;

@@ -25,7 +25,7 @@ use Rattle.verdict.proofs.Checked.{checked-one, checked-found}
 use Rattle.verdict.proofs.Promise.{fault-number}
 use Rattle.verdict.proofs.One.{result, witness}
 use Rattle.verdict.proofs.Unmoved.{plain-checked, bare-checked, eager-checked, verdict-stays}
-use Rattle.verdict.proofs.Demand.{RefusedBy, checked-is, none-robust, alike-means, unlike-means, ten-exactly, eleven-exactly, withheld-exactly, refused-means, lengths-kept}
+use Rattle.verdict.proofs.Demand.{RefusedBy, checked-is, none-robust, alike-means, unlike-means, ten-exactly, eleven-exactly, never-eleven, withheld-exactly, refused-means, lengths-kept}
 use Rattle.checker.specs.declared.Verdict.{Verdict}
 use Rattle.checker.specs.declared.Verdict.the-variants.{Alike, Unlike, Refused}
 use Rattle.checker.specs.Verdicts.{resultOf, Checks}
@@ -120,6 +120,10 @@ module _ (p t v : List ℕ) (x : Verdict) (t′ v′ : List ℕ) (h : Checks p t
     -- WITH 11 exactly if they do not, and that line is longer than the buffer.
     pub check-eleven : (x ≡ Refused 11 0) ↔ ((Outnumber (writeOut a) (slots (formOf (writeOut a)) (length t)) → ⊥) × Longer (writeOut a) (length v))
     check-eleven = Iff·trans refusal (eleven-exactly a reads)
+
+    -- NEVER WITH 11 where the buffer has a byte for each slot.
+    pub check-room : slots (formOf (writeOut a)) (length t) ≤ length v → x ≢ Refused 11 0
+    check-room room e = never-eleven a reads room (refusal .0 e)
 
     -- OTHERWISE it is a verdict, and carries their number.
     pub check-decides : (Outnumber (writeOut a) (slots (formOf (writeOut a)) (length t)) → ⊥) → (Longer (writeOut a) (length v) → ⊥) → ((n : ℕ) × (x ≡ Alike n)) ⊎ ((n k : ℕ) × (x ≡ Unlike n k))

@@ -22,7 +22,7 @@ use Rattle.verdict.specs.Table.{slots}
 use Rattle.verdict.specs.Checked.{Result, alike, unlike, refused, Whole, whole, Checked}
 use Rattle.verdict.specs.Demand.{NoneCut, FirstCut, Number, Outnumber, Longer}
 use Rattle.verdict.proofs.Checked.{checked-found, checked-exactly, checked-one}
-use Rattle.verdict.proofs.Promise.{Refused, alike-promise, unlike-promise, ten, eleven, withheld, reader-refusal, kept}
+use Rattle.verdict.proofs.Promise.{Refused, alike-promise, unlike-promise, ten, eleven, eleven-never, withheld, reader-refusal, kept}
 use Rattle.verdict.proofs.StayBytes.{stay-bytes}
 
 -- Of a right answer: an answer is right exactly if it is that one.
@@ -65,6 +65,10 @@ module _ {p t v : List ℕ} where
 
     pub eleven-exactly : RefusedBy p t v 11 ↔ ((Outnumber (writeOut a) (slots (formOf (writeOut a)) (length t)) → ⊥) × Longer (writeOut a) (length v))
     eleven-exactly = (λ c. eleven a i .0 (to c), λ o. back (eleven a i .1 o))
+
+    -- A BUFFER WITH A BYTE FOR EACH SLOT is never too short.
+    pub never-eleven : slots (formOf (writeOut a)) (length t) ≤ length v → RefusedBy p t v 11 → ⊥
+    never-eleven room c = eleven-never a i room (to c)
 
     pub withheld-exactly : (RefusedBy p t v 10 ⊎ RefusedBy p t v 11) ↔ (Outnumber (writeOut a) (slots (formOf (writeOut a)) (length t)) ⊎ Longer (writeOut a) (length v))
     withheld-exactly = (

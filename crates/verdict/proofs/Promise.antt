@@ -2,7 +2,7 @@
 -- Assumes nothing.
 use mathlib.Core.Path.{_≡_, refl, sym, ap, ap₂, _∙_, subst}
 use mathlib.Core.Logic.{_⊎_, inl, inr, _↔_}
-use Prim.Native.Nat.{ℕ, suc, _≤_}
+use Prim.Native.Nat.{ℕ, suc, _≤_, _<_}
 use mathlib.Core.List.{List, [], _∷_, _++_}
 use native.Mathlib.Omega.{arith}
 use lib.ListN.{length, take, drop}
@@ -26,6 +26,7 @@ use Rattle.verdict.specs.Code.Found.{Found, not-read, same-cuts, first-w
 use Rattle.verdict.specs.Demand.{NoneCut, FirstCut, Number, Outnumber, Longer}
 use Rattle.verdict.proofs.Tables.{records-size, slots-fit, onto-length}
 use Rattle.theory.proofs.Lines.{snoc-size}
+use Rattle.verdict.proofs.Witnesses.{witness-length}
 use Rattle.verdict.proofs.Words.{alike-none, first-cut, first-unique, alike-number, unlike-number, full-outnumbers, enough}
 
 -- The reader's refusals are 1 to 8.
@@ -112,6 +113,16 @@ module _ {p t v : List ℕ} where
     eleven-only (t′, v′, no-room {a = b} {w = w} h c l k e f g) =
         subst (λ x. (Outnumber (writeOut x) (slots (formOf (writeOut x)) (length t)) → ⊥) × Longer (writeOut x) (length v)) (unambiguous p b a h i)
         (enough (writeOut b) (writeOut-numbered b) (unlike-number (writeOut b) (writeOut-numbered b) c) l, (w, first-cut (writeOut b) (writeOut-numbered b) c, k))
+
+    -- 11 never comes where the buffer has a byte for each slot.
+    pub eleven-never : slots (formOf (writeOut a)) (length t) ≤ length v → Refused p t v 11 → ⊥
+    eleven-never room (t′, v′, not-read {n = n} {q = q} f e g h) = not-both p a n q i f
+    eleven-never room (t′, v′, same-cuts h c l e f g) = let z : _≡_ {A = ℕ} 0 1 = cc in omega arith
+    eleven-never room (t′, v′, first-witness h c l k e f g) = let z : _≡_ {A = ℕ} 0 1 = cc in omega arith
+    eleven-never room (t′, v′, no-slot h c l e f g) = let z : _≡_ {A = ℕ} 11 10 = cc in omega arith
+    eleven-never room (t′, v′, no-room {a = b} {L = L} h c l k e f g) =
+        let few : length L < slots (formOf (writeOut a)) (length t) = subst (λ x. length L < slots (formOf (writeOut x)) (length t)) (unambiguous p b a h i) l in
+        omega (arith, witness-length (writeOut b) (writeOut-numbered b) c)
 
     -- Where the first line cut differently is too long, the verdict is withheld.
     too-long : Longer (writeOut a) (length v) → Refused p t v 10 ⊎ Refused p t v 11

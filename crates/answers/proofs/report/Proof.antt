@@ -19,7 +19,7 @@ returns c =
     let p = c .explained .ensures _ _ _ (x .ensures .checks) in
     reported-by _ (c6 .before .before .before .ahead .ensures) (
       _,
-      record { report = x .result; reports = x .ensures; head = l .0; looking = l .1; rest = p .0; line = p .1; text = refl },
+      record { lent = (search needs, search needs); report = x .result; reports = x .ensures; head = l .0; looking = l .1; rest = p .0; line = p .1; text = refl },
       omega (arith, l .2, p .2, lengths-kept (x .ensures .checks) .1, length-append (l .0) (p .0)),
       join (l .3) (p .3),
     )
