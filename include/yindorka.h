@@ -21,8 +21,8 @@
 #include <stdint.h>
 
 /* The version of this header: 10,000 times the first number, 100 times the second, and the third. */
-#define YINDORKA_VERSION "1.7.0"
-#define YINDORKA_VERSION_NUMBER 10700
+#define YINDORKA_VERSION "1.8.0"
+#define YINDORKA_VERSION_NUMBER 10800
 
 #ifdef __cplusplus
 extern "C" {
@@ -120,9 +120,9 @@ typedef struct {
     size_t bytes;
 } yindorka_record_size;
 
-/* kind 0, alike: no line of any length is cut differently; first is the number of records.
+/* kind 0, alike: no line of any length is cut differently; first is the number of records, 0 if the test settled it and no record was needed.
  * kind 1, unlike: first is the number of records, second the length of the first line that is cut differently.
- * kind 2, refused: first is the number (1 to 8, 10 or 11), second the place. */
+ * kind 2, refused: first is the number (1 to 8, 10, 11 or 13), second the place. */
 typedef struct {
     size_t kind;
     size_t first;
@@ -131,8 +131,8 @@ typedef struct {
 
 /* An outcome, and how much looking through the records it took. There is a look for each record's line carried on by the lowest byte of each group, until the verdict is
  * reached. It compares the records that there are one by one, from record 0 on, up to the first of the same standing: that one's number plus 1, or all of them if none has
- * the standing. looks is how many looks there were, comparisons how many records they compared in all; a number above SIZE_MAX would be SIZE_MAX. A refusal 1 to 8 takes
- * none. */
+ * the standing. looks is how many looks there were, comparisons how many records they compared in all; a number above SIZE_MAX would be SIZE_MAX. A refusal 1 to 8 or 13
+ * takes none, and neither does a pattern that the test settles. */
 typedef struct {
     yindorka_outcome outcome;
     size_t looks;
@@ -167,15 +167,23 @@ yindorka_refusal yindorka_readable(const uint8_t *pattern, size_t pattern_length
 /* How many bytes each record of the pattern takes in the table of yindorka_check: a table for n records has n times as many. */
 yindorka_record_size yindorka_record_bytes(const uint8_t *pattern, size_t pattern_length);
 
+/* The bytes of the area that yindorka_check needs. */
+#define YINDORKA_AREA_SIZE 1024
+
 /* Decides whether a greedy and a POSIX reading of the pattern can ever cut a line differently.
+ * First a test that needs no table: it passes exactly if no string that the pattern matches extends to a longer one that it matches, as of patterns with a fixed ending. Then
+ * the pattern is alike, with 0 records, whatever table and witness buffer are, and they keep every byte. Else the records decide.
  * Writes: the table, whose slots are its length divided by the bytes of a record (yindorka_record_bytes), at most 65,535: the records found, from its start on, the rest
- * kept; the witness buffer, only for kind 1: the first line that is cut differently, at its start, the rest kept. A refusal 1 to 8 keeps both; 10: more records are needed
+ * kept; the witness buffer, only for kind 1: the first line that is cut differently, at its start, the rest kept; the area, in which the test runs: its first 1,024 bytes are
+ * zero afterwards, whatever they held, and the rest is kept. A refusal 1 to 8 keeps all three, and so does 13: the area is below 1,024 bytes. 10: more records are needed
  * than there are slots, all slots hold records; 11: all records are written, but the witness is longer than its buffer. A witness has fewer bytes than there are records,
- * so a buffer with a byte for each slot is never too short. Buffers of any lengths, 0 included. */
-yindorka_outcome yindorka_check(const uint8_t *pattern, size_t pattern_length, uint8_t *table, size_t table_length, uint8_t *witness, size_t witness_length);
+ * so a buffer with a byte for each slot is never too short. Buffers of any lengths, 0 included; no two of them may overlap. */
+yindorka_outcome yindorka_check(const uint8_t *pattern, size_t pattern_length, uint8_t *table, size_t table_length, uint8_t *witness, size_t witness_length, uint8_t *area,
+                                size_t area_length);
 
 /* The same, and how much looking it took. */
-yindorka_looking yindorka_check_looking(const uint8_t *pattern, size_t pattern_length, uint8_t *table, size_t table_length, uint8_t *witness, size_t witness_length);
+yindorka_looking yindorka_check_looking(const uint8_t *pattern, size_t pattern_length, uint8_t *table, size_t table_length, uint8_t *witness, size_t witness_length,
+                                        uint8_t *area, size_t area_length);
 
 /* Reads a pattern and fills its tables, which then serve any number of lines. A refused pattern leaves them as they are. */
 static inline yindorka_refusal yindorka_read(const uint8_t *pattern, size_t length, yindorka_tables *t)

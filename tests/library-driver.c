@@ -1,14 +1,16 @@
 // The library as C calls it, for tests/requests. Standard input has a call a line, patterns and lines in hex ('-' if one is empty).
 // 'fields PATTERN LINE' prints 'refused NUMBER PLACE', 'none', or 'span START END' and for each field its start and end or 'absent'.
+// 'spans PATTERN LINE' prints 'refused NUMBER PLACE', 'none', or 'greedy START END posix START END'.
 // 'groups PATTERN' prints 'refused NUMBER PLACE', or 'groups' and the number of each byte's group, then after ' : ' the lowest byte of each group.
 // 'lengths PATTERN' prints 'refused NUMBER PLACE', 'least LEAST greatest GREATEST' or 'least LEAST no limit'.
 // 'record PATTERN' prints 'refused NUMBER PLACE' or 'bytes BYTES'.
 // 'readable PATTERN LINE' prints 'refused NUMBER PLACE' or 'accepted', then after ' : ' the line in hex.
-// 'check PATTERN TABLE WITNESS' calls the checker, with how many bytes of table and witness buffer are lent. Before the call every byte of the table is aa and every byte of the witness buffer bb, and guard bytes stand before
-// and behind both. Prints for each call, on one line, the result as the checker program has it, then the table and the witness buffer in hex ('-' if one is empty),
-// each after ' : ', and ' : guard bytes changed' if some are.
-// 'looking PATTERN TABLE WITNESS' calls it with how much looking it takes: prints 'looks LOOKS comparisons COMPARISONS' and the result, and ' : not as yindorka_check' if the
-// outcome or a byte of the buffers is another than that call's.
+// 'check PATTERN TABLE WITNESS AREA' calls the checker, with how many bytes of table, witness buffer and area are lent. Before the call every byte of the table is aa, every byte
+// of the witness buffer bb and every byte of the area cc, and guard bytes stand before and behind each. Prints for each call, on one line, the result as the checker program has
+// it, then the table and the witness buffer in hex ('-' if one is empty), each after ' : ', then what the area is, too: 'zeroed' if its first 1,024 bytes are zero and the rest
+// is kept, 'kept' if all of it is, else 'changed'; and ' : guard bytes changed' if some are.
+// 'looking PATTERN TABLE WITNESS AREA' calls it with how much looking it takes: prints 'looks LOOKS comparisons COMPARISONS' and the result, and ' : not as yindorka_check' if
+// the outcome or a byte of the buffers is another than that call's.
 #include <stdio.h>
 #include <stdlib.h>
 #include <string.h>
@@ -18,6 +20,7 @@
 #define GUARD_BYTE 0xEE
 #define TABLE_BYTE 0xAA
 #define WITNESS_BYTE 0xBB
+#define AREA_BYTE 0xCC
 
 // A lent buffer, between its guard bytes; at points to its own first byte, which is never null.
 typedef struct {
@@ -83,16 +86,6 @@ static void print_result(yindorka_outcome outcome, buffer witness)
         printf("refused %zu %zu", outcome.first, outcome.second);
     else
         printf("no outcome: %zu %zu %zu", outcome.kind, outcome.first, outcome.second);
-}
-
-static void call(const uint8_t *pattern, size_t length, buffer table, buffer witness)
-{
-    yindorka_outcome outcome = yindorka_check(pattern, length, table.at, table.length, witness.at, witness.length);
-
-    print_result(outcome, witness);
-    print_buffer(table);
-    print_buffer(witness);
-    puts(guards_kept(table) && guards_kept(witness) ? "" : " : guard bytes changed");
 }
 
 static int digit(char c)
@@ -230,15 +223,53 @@ static int readable(const char *pattern_hex, const char *line_hex)
     return 1;
 }
 
-static int check(char *pattern_hex, const char *table_length, const char *witness_length)
+// The buffers of a call.
+typedef struct {
+    buffer table;
+    buffer witness;
+    buffer area;
+} buffers;
+
+static buffers lend_all(const char *table_length, const char *witness_length, const char *area_length)
+{
+    return (buffers){lend(strtoul(table_length, NULL, 10), TABLE_BYTE), lend(strtoul(witness_length, NULL, 10), WITNESS_BYTE), lend(strtoul(area_length, NULL, 10), AREA_BYTE)};
+}
+
+static void give_all_back(buffers b)
+{
+    give_back(b.table);
+    give_back(b.witness);
+    give_back(b.area);
+}
+
+static int all_are(const uint8_t *bytes, size_t length, uint8_t byte)
+{
+    for (size_t i = 0; i < length; i++)
+        if (bytes[i] != byte)
+            return 0;
+    return 1;
+}
+
+static const char *area_now(buffer area)
+{
+    if (all_are(area.at, area.length, AREA_BYTE))
+        return "kept";
+    if (area.length >= YINDORKA_AREA_SIZE && all_are(area.at, YINDORKA_AREA_SIZE, 0) && all_are(area.at + YINDORKA_AREA_SIZE, area.length - YINDORKA_AREA_SIZE, AREA_BYTE))
+        return "zeroed";
+    return "changed";
+}
+
+static int check(char *pattern_hex, buffers lent)
 {
     uint8_t *pattern = room(strlen(pattern_hex) + 1);
     size_t length = read_hex(pattern_hex, pattern);
-    buffer table = lend(strtoul(table_length, NULL, 10), TABLE_BYTE), witness = lend(strtoul(witness_length, NULL, 10), WITNESS_BYTE);
+    yindorka_outcome outcome = yindorka_check(pattern, length, lent.table.at, lent.table.length, lent.witness.at, lent.witness.length, lent.area.at, lent.area.length);
 
-    call(pattern, length, table, witness);
-    give_back(table);
-    give_back(witness);
+    print_result(outcome, lent.witness);
+    print_buffer(lent.table);
+    print_buffer(lent.witness);
+    printf(" : %s", area_now(lent.area));
+    puts(guards_kept(lent.table) && guards_kept(lent.witness) && guards_kept(lent.area) ? "" : " : guard bytes changed");
     free(pattern);
     return 1;
 }
@@ -248,22 +279,17 @@ static int equal_buffers(buffer a, buffer b)
     return a.length == b.length && memcmp(a.at, b.at, a.length) == 0 && guards_kept(a) && guards_kept(b);
 }
 
-static int looking(char *pattern_hex, const char *table_length, const char *witness_length)
+static int looking(char *pattern_hex, buffers lent, buffers other)
 {
     uint8_t *pattern = room(strlen(pattern_hex) + 1);
-    size_t length = read_hex(pattern_hex, pattern), t = strtoul(table_length, NULL, 10), w = strtoul(witness_length, NULL, 10);
-    buffer table = lend(t, TABLE_BYTE), witness = lend(w, WITNESS_BYTE), other_table = lend(t, TABLE_BYTE), other_witness = lend(w, WITNESS_BYTE);
-    yindorka_looking x = yindorka_check_looking(pattern, length, table.at, t, witness.at, w);
-    yindorka_outcome y = yindorka_check(pattern, length, other_table.at, t, other_witness.at, w);
+    size_t length = read_hex(pattern_hex, pattern);
+    yindorka_looking x = yindorka_check_looking(pattern, length, lent.table.at, lent.table.length, lent.witness.at, lent.witness.length, lent.area.at, lent.area.length);
+    yindorka_outcome y = yindorka_check(pattern, length, other.table.at, other.table.length, other.witness.at, other.witness.length, other.area.at, other.area.length);
     int same = x.outcome.kind == y.kind && x.outcome.first == y.first && x.outcome.second == y.second;
 
     printf("looks %zu comparisons %zu ", x.looks, x.comparisons);
-    print_result(x.outcome, witness);
-    puts(same && equal_buffers(table, other_table) && equal_buffers(witness, other_witness) ? "" : " : not as yindorka_check");
-    give_back(table);
-    give_back(witness);
-    give_back(other_table);
-    give_back(other_witness);
+    print_result(x.outcome, lent.witness);
+    puts(same && equal_buffers(lent.table, other.table) && equal_buffers(lent.witness, other.witness) && equal_buffers(lent.area, other.area) ? "" : " : not as yindorka_check");
     free(pattern);
     return 1;
 }
@@ -279,7 +305,36 @@ static int fields(char *pattern_hex, char *line_hex)
     return 1;
 }
 
-static int call_named(const char *what, char *first, char *second, const char *third)
+static int spans(const char *pattern_hex, const char *line_hex)
+{
+    static yindorka_tables tables;
+    uint8_t *pattern = room(strlen(pattern_hex) + 1), *line = room(strlen(line_hex) + 1);
+    yindorka_refusal refusal = yindorka_read(pattern, read_hex(pattern_hex, pattern), &tables);
+    size_t places[3];
+
+    if (refusal.number)
+        printf("refused %zu %zu\n", refusal.number, refusal.place);
+    else if (!yindorka_spans(line, read_hex(line_hex, line), &tables, places))
+        puts("none");
+    else
+        printf("greedy %zu %zu posix %zu %zu\n", places[0], places[1], places[0], places[2]);
+    free(pattern);
+    free(line);
+    return 1;
+}
+
+// The checker, or the checker with how much looking it takes, by the pattern and three lengths.
+static int call_lending(const char *what, char *pattern_hex, const char *t, const char *w, const char *a)
+{
+    buffers lent = lend_all(t, w, a), other = lend_all(t, w, a);
+    int called = strcmp(what, "looking") == 0 ? looking(pattern_hex, lent, other) : strcmp(what, "check") == 0 ? check(pattern_hex, lent) : 0;
+
+    give_all_back(lent);
+    give_all_back(other);
+    return called;
+}
+
+static int call_named(const char *what, char *first, char *second, const char *third, const char *fourth)
 {
     if (strcmp(what, "groups") == 0)
         return groups(first);
@@ -293,9 +348,11 @@ static int call_named(const char *what, char *first, char *second, const char *t
         return fields(first, second);
     if (strcmp(what, "readable") == 0)
         return readable(first, second);
-    if (!third)
+    if (strcmp(what, "spans") == 0)
+        return spans(first, second);
+    if (!third || !fourth)
         return 0;
-    return strcmp(what, "looking") == 0 ? looking(first, second, third) : check(first, second, third);
+    return call_lending(what, first, second, third, fourth);
 }
 
 int main(void)
@@ -304,9 +361,9 @@ int main(void)
     size_t size = 0;
 
     while (getline(&line, &size, stdin) >= 0) {
-        char *what = strtok(line, " \n"), *first = strtok(NULL, " \n"), *second = strtok(NULL, " \n"), *third = strtok(NULL, " \n");
+        char *what = strtok(line, " \n"), *first = strtok(NULL, " \n"), *second = strtok(NULL, " \n"), *third = strtok(NULL, " \n"), *fourth = strtok(NULL, " \n");
 
-        if (!first || !call_named(what, first, second, third))
+        if (!first || !call_named(what, first, second, third, fourth))
             return 2;
     }
     free(line);

@@ -5,10 +5,11 @@
 #include <string.h>
 #include "../../include/yindorka.h"
 
-/* 64 KB of table hold 1,074 records of a pattern with 64 leaves, and more of one with fewer: up to 5,041. A witness has fewer bytes than there are records. The buffers are
- * the caller's: nothing is allocated. */
+/* 64 KB of table hold 1,074 records of a pattern with 64 leaves, and more of one with fewer: up to 5,041. A witness has fewer bytes than there are records. The area is for
+ * the test that comes first, and settles patterns with a fixed ending without a record. The buffers are the caller's: nothing is allocated. */
 static uint8_t table[65536];
 static uint8_t witness[5041];
+static uint8_t area[YINDORKA_AREA_SIZE];
 static yindorka_tables tables;
 
 /* The first line cut differently, and the same in printable bytes of the same groups, where there are any. */
@@ -26,7 +27,9 @@ static void show_witness(const uint8_t *pattern, size_t length, size_t witness_l
 static void show_verdict(const uint8_t *pattern, size_t length, yindorka_outcome o)
 {
     size_t bytes = yindorka_record_bytes(pattern, length).bytes;
-    if (o.kind == 0) {
+    if (o.kind == 0 && o.first == 0) {
+        printf("alike, without a record: no match extends to a longer one\n");
+    } else if (o.kind == 0) {
         printf("alike, %zu records of %zu bytes\n", o.first, bytes);
     } else if (o.kind == 1) {
         printf("unlike, %zu records of %zu bytes, first line cut differently: ", o.first, bytes);
@@ -69,7 +72,7 @@ int main(int n, char **words)
     }
     const uint8_t *pattern = (const uint8_t *)words[1];
     size_t length = strlen(words[1]);
-    show_verdict(pattern, length, yindorka_check(pattern, length, table, sizeof table, witness, sizeof witness));
+    show_verdict(pattern, length, yindorka_check(pattern, length, table, sizeof table, witness, sizeof witness, area, sizeof area));
     if (yindorka_read(pattern, length, &tables).number) {
         return 1;
     }

@@ -6,7 +6,10 @@ use std::os::unix::ffi::OsStringExt;
 use std::process::exit;
 
 // The library's version, structs and functions, as include/yindorka.h has them.
-const VERSION: u32 = 10700;
+const VERSION: u32 = 10800;
+
+// The bytes of the area that the checker needs.
+const AREA_SIZE: usize = 1024;
 
 #[repr(C)]
 struct Refusal {
@@ -72,6 +75,8 @@ extern "C" {
         table_length: usize,
         witness: *mut u8,
         witness_length: usize,
+        area: *mut u8,
+        area_length: usize,
     ) -> Outcome;
 }
 
@@ -158,6 +163,8 @@ fn check(text: &[u8]) -> Verdict {
     let mut table = vec![0u8; 65536];
     // A witness has fewer bytes than there are records, and the table holds at most 5,041.
     let mut witness = vec![0u8; 5041];
+    // For the test that comes first, and settles patterns with a fixed ending without a record.
+    let mut area = [0u8; AREA_SIZE];
     // Safe as above.
     let o = unsafe {
         yindorka_check(
@@ -167,6 +174,8 @@ fn check(text: &[u8]) -> Verdict {
             table.len(),
             witness.as_mut_ptr(),
             witness.len(),
+            area.as_mut_ptr(),
+            area.len(),
         )
     };
     match o.kind {
@@ -193,6 +202,7 @@ fn show_verdict(out: &mut impl Write, text: &[u8], verdict: Verdict) -> io::Resu
         RecordSize { number, place, .. } => return writeln!(out, "refused with {number} at {place}"),
     };
     match verdict {
+        Verdict::Alike { count: 0 } => writeln!(out, "alike, without a record: no match extends to a longer one"),
         Verdict::Alike { count } => writeln!(out, "alike, {count} records of {bytes} bytes"),
         Verdict::Unlike { count, witness, readable } => {
             let hex: String = witness.iter().map(|b| format!("{b:02x}")).collect();

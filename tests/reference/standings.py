@@ -1,8 +1,11 @@
-"""A slow, obvious reading of paper 01's outcomes, spans, standings, records and refusals 10 and 11, with requests 1, 5 and 7 of paper 02, apart from the product. The reader
+"""A slow, obvious reading of paper 01's outcomes, spans, standings, records and refusals 10 and 11, with requests 1, 5, 7 and 8 of paper 02, apart from the product. The reader
 is paper01.py's.
 
-check(pattern, table, witness) -> (line that the checker program prints, table afterwards, witness buffer afterwards)."""
+extended(pattern) -> None if an accepted pattern passes the test of request 8, else a string that it matches and a longer one that it matches, too.
+check(pattern, table, witness, area) -> (line that the checker program prints, table afterwards, witness buffer afterwards, area afterwards)."""
+import functools
 from paper01 import below, leaves, read
+from rests import extension
 
 
 def numbered(r, n=0):
@@ -122,19 +125,75 @@ def record_bytes(record, n):
     return int(bits.ljust(8 * width(n), '0'), 2).to_bytes(width(n), 'big')
 
 
-def check(pattern, table, witness):
+# The bytes of the area that the test of request 8 runs in.
+AREA = 1024
+
+# So many sets of wanted leaves are looked through. There can be as many as there are sets of 64 leaves, so that of a few patterns the rests alone decide.
+MOST_SETS = 400
+
+
+def matched(whole, line):
+    return ('ends', len(line)) in outcomes(whole, line)(0)
+
+
+def extends_by_sets(r):
+    """Whether some matched string extends to a longer one, by (c) and (d) of all lines; None if that would take too many. (c) alone decides what (c) and (d) are a byte later."""
+    whole, _ = numbered(r)
+    lines = {standing(whole, b'')[2:]: b''}
+    later = {}
+    for s in (queue := list(lines)):
+        later[s] = set()
+        for b in lowest_bytes(r):
+            line = lines[s] + bytes([b])
+            after = standing(whole, line)[2:]
+            later[s].add(after)
+            if after not in lines:
+                lines[after] = line
+                queue.append(after)
+        if len(lines) > MOST_SETS:
+            return None
+
+    def reached(s):
+        seen = set()
+        for x in (queue := [s]):
+            queue.extend(later[x] - seen)
+            seen |= later[x]
+        return seen
+
+    return any(s[1] and any(x[1] for x in reached(s)) for s in lines)
+
+
+@functools.cache
+def extended(pattern):
+    """By the rests of the pattern. The two strings are shown to be matched by the outcomes; where there are none, the sets of wanted leaves say so too, if they are not too many."""
+    r = read(pattern)[1]
+    told = extension(r, lowest_bytes(r))
+    if told:
+        whole, _ = numbered(r)
+        assert len(told[0]) < len(told[1]) and told[1].startswith(told[0]) and matched(whole, told[0]) and matched(whole, told[1]), (pattern, told)
+    else:
+        assert not extends_by_sets(r), pattern
+    return told
+
+
+def check(pattern, table, witness, area):
     answer = read(pattern)
     if answer[0] == 'refused':
-        return 'refused %d %d' % answer[1:], table, witness
+        return 'refused %d %d' % answer[1:], table, witness, area
+    if len(area) < AREA:
+        return 'refused 13 0', table, witness, area
+    area = bytes(AREA) + area[AREA:]
+    if not extended(pattern):
+        return 'alike 0', table, witness, area
     slots = slots_of(answer[1], len(table))
     found = records(answer[1], slots)
     written = b''.join(record_bytes(x, len(leaves(answer[1]))) for x in found[:slots])
     table = written + table[len(written):]
     if len(found) > slots:
-        return 'refused 10 0', table, witness
+        return 'refused 10 0', table, witness, area
     line, last = found[-1][:2]
     if not is_witness(last):
-        return 'alike %d' % len(found), table, witness
+        return 'alike %d' % len(found), table, witness, area
     if len(line) > len(witness):
-        return 'refused 11 0', table, witness
-    return 'unlike %d %s' % (len(found), line.hex()), table, line + witness[len(line):]
+        return 'refused 11 0', table, witness, area
+    return 'unlike %d %s' % (len(found), line.hex()), table, line + witness[len(line):], area

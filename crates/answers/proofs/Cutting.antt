@@ -7,14 +7,16 @@ use mathlib.Core.List.{List}
 use native.Mathlib.Omega.{arith}
 use lib.ListN.{take}
 use Rattle.theory.specs.Spans.{greedy, posix}
+use Rattle.theory.proofs.Tests.{either}
 use Rattle.grammar.specs.Grammar.{Alternation}
 use Rattle.grammar.specs.Limits.{Reads}
 use Rattle.grammar.specs.WriteOut.{writeOut}
 use Rattle.grammar.specs.Refusals.{Fault}
 use Rattle.grammar.proofs.Right.{either-way}
-use Rattle.verdict.specs.Checked.{unlike, whole, Checked}
-use Rattle.verdict.specs.Code.Found.{Found, not-read, same-cuts, first-witness, no-slot, no-room}
-use Rattle.verdict.proofs.Checked.{checked-found}
+use Rattle.verdict.specs.Tabled.{unlike, whole}
+use Rattle.verdict.specs.Checked.{Checked, by-fault}
+use Rattle.verdict.proofs.One.{result}
+use Rattle.verdict.proofs.Checked.{checked-one}
 use Rattle.verdict.proofs.Demand.{unlike-means}
 use Rattle.matchers.specs.declared.Spans.{Spans}
 use Rattle.matchers.specs.declared.Spans.the-variants.{Nowhere, Located}
@@ -59,13 +61,10 @@ module _ {p w : List ℕ} {r : Reply} (h : Replied p w r) where
       }
 
 -- A witness is cut differently, so it is shown with its spans.
-pub witness-cut : {p t u t′ v text : List ℕ} {n k : ℕ} → Checked p t u (whole (unlike n k) t′ v) → Shown p n (take k v) text → CutLine p n (take k v) text
+pub witness-cut : {p t u s t′ v s′ text : List ℕ} {n k : ℕ} → Checked p t u s (whole (unlike n k) t′ v) s′ → Shown p n (take k v) text → CutLine p n (take k v) text
 witness-cut c (Shows.cut l) = l
-witness-cut {p} {t} {u} {t′} {v} {text} {n} {k} c (Shows.uncut same l) = go (checked-found c)
-  where
-    go : Found p t u (unlike n k) t′ v → CutLine p n (take k v) text
-    go (not-read f e g h) = absurd (let z : _≡_ {A = ℕ} 0 1 = cc in omega arith)
-    go (same-cuts h d s e f g) = absurd (let z : _≡_ {A = ℕ} 0 1 = cc in omega arith)
-    go (first-witness {a = a} h d s j e f g) = absurd (unlike-means a h c .0 .cut (same a h))
-    go (no-slot h d s e f g) = absurd (let z : _≡_ {A = ℕ} 0 1 = cc in omega arith)
-    go (no-room h d s j e f g) = absurd (let z : _≡_ {A = ℕ} 0 1 = cc in omega arith)
+witness-cut {p} {t} {u} {s} {t′} {v} {s′} {text} {n} {k} c (Shows.uncut same l) =
+    either
+    (λ (a, reads). absurd (unlike-means a reads c .0 .cut (same a reads)))
+    (λ (m, q, f). let e = ap result (checked-one c (by-fault f) .0) in absurd (let z : _≡_ {A = ℕ} 0 1 = cc in omega arith))
+    (either-way p)

@@ -22,7 +22,7 @@ use Rattle.screen.specs.Shows.{Shows}
 use Rattle.screen.proofs.Laws.{shows-accepted, shows-refused}
 use Rattle.printing.specs.Text.{Printed, RefusedLine, LengthsText, Ahead, GroupsLine}
 use Rattle.printing.proofs.Laws.{join}
-use Rattle.answers.specs.Answer.{Reported, ReportedBy, asksDetails, Listed}
+use Rattle.answers.specs.Answer.{Buffers, Reported, ReportedBy, asksDetails, Listed}
 use Rattle.answers.specs.declared.Asked.{Asked}
 use Rattle.answers.proofs.Asked.{the-type}
 use Rattle.answers.specs.declared.Asked.the-variants.{Spans, Looking, Details, Groups}
@@ -49,7 +49,7 @@ module _ {p : List ℕ} {r : Reading} (read : ReadRight p r) {asked : Bool} {old
   begun-unread a e s t = unread a (refused-fault read e) s t
 
 -- The report, with what stands before it.
-pub reported-by : {p old new final : List ℕ} {n m k : ℕ} {x y : List ℕ × List ℕ} (asked : Bool) → Begun asked p old n new m → Printed 20360 (λ w. Reported x p w y) new m final k
+pub reported-by : {p old new final : List ℕ} {n m k : ℕ} {x y : Buffers} (asked : Bool) → Begun asked p old n new m → Printed 20360 (λ w. Reported x p w y) new m final k
     → Printed 20417 (λ w. ReportedBy asked x p w y) old n final k
 reported-by {x = x} {y = y} asked (long {t = t} a reads (v, l, s, f)) (w, z, i, g) =
     rw a (

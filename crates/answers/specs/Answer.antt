@@ -8,6 +8,7 @@ use lib.ListN.{length}
 use Rattle.grammar.specs.WriteOut.{writeOut}
 use Rattle.grammar.specs.Refusals.{Right}
 use Rattle.grammar.specs.Refusals as Due
+use Rattle.verdict.specs.Area.{areaBytes}
 use Rattle.groups.specs.Numbers.{groupsOf}
 use Rattle.lengths.specs.Lengths.{lengths}
 use Rattle.lengths.specs.Code.{limitOf}
@@ -21,27 +22,36 @@ use Rattle.answers.specs.declared.Asked.the-variants.{Spans, Looking, De
 use Rattle.answers.specs.declared.Asked.the-variants as Asked
 use Rattle.answers.specs.Line.{SpansLineOf, AnswerLine}
 
--- What a program lends for each pattern: paper 01's "65,536 bytes of table", and request 7's "5,041 bytes of witness buffer".
-abbrev pub Lends : List ℕ × List ℕ → Type 0
-Lends x = (length (x .0) ≡ 65536) × (length (x .1) ≡ 5041)
+-- What the checker is lent: table, witness buffer and area.
+pub record Buffers : Type 0 where
+  pub table : List ℕ
+  pub witness : List ℕ
+  pub area : List ℕ
 
--- The text w is the line of the verdict that paper 01 gives for the pattern p, with the spans of the witness and its readable form if they are asked for. Table and
--- witness buffer, which held x, hold y then.
-pub record Judged (spans : Bool) (x : List ℕ × List ℕ) (p w : List ℕ) (y : List ℕ × List ℕ) : Type 0 where
+abbrev pub buffers : List ℕ → List ℕ → List ℕ → Buffers
+buffers t v s = record { table = t; witness = v; area = s }
+
+-- What a program lends for each pattern: paper 01's "65,536 bytes of table", request 7's "5,041 bytes of witness buffer", and an area that is long enough for request 8.
+abbrev pub Lends : Buffers → Type 0
+Lends x = (length (x .table) ≡ 65536) × (length (x .witness) ≡ 5041) × (length (x .area) ≡ areaBytes)
+
+-- The text w is the line of the verdict that the papers give for the pattern p, with the spans of the witness and its readable form if they are asked for. The buffers,
+-- which held x, hold y then.
+pub record Judged (spans : Bool) (x : Buffers) (p w : List ℕ) (y : Buffers) : Type 0 where
   pub lent : Lends x
   pub verdict : Verdict
-  pub checks : Checks p (x .0) (x .1) verdict (y .0) (y .1)
-  pub line : AnswerLine spans p verdict (y .1) w
+  pub checks : Checks p (x .table) (x .witness) (x .area) verdict (y .table) (y .witness) (y .area)
+  pub line : AnswerLine spans p verdict (y .witness) w
 
 -- The text w says how much looking that took (request 4), and has the same line with the spans.
-pub record Reported (x : List ℕ × List ℕ) (p w : List ℕ) (y : List ℕ × List ℕ) : Type 0 where
+pub record Reported (x : Buffers) (p w : List ℕ) (y : Buffers) : Type 0 where
   pub lent : Lends x
   pub report : Report
-  pub reports : Reports p (x .0) (x .1) report (y .0) (y .1)
+  pub reports : Reports p (x .table) (x .witness) (x .area) report (y .table) (y .witness) (y .area)
   pub head : List ℕ
   pub looking : LookingText (report .looking .looks) (report .looking .comparisons) head
   pub rest : List ℕ
-  pub line : SpansLineOf p (report .verdict) (y .1) rest
+  pub line : SpansLineOf p (report .verdict) (y .witness) rest
   pub text : w ≡ head ++ rest
 
 -- Before that, for an accepted pattern, how long a match can be (request 6).
@@ -49,7 +59,7 @@ abbrev pub LengthsAhead : Due.Answer → List ℕ → Type 0
 LengthsAhead (Due.accepted t) w = Ahead (LengthsText (lengths t .least) (limitOf (lengths t .greatest))) w
 LengthsAhead (Due.refused n q) w = w ≡ []
 
-pub record Detailed (x : List ℕ × List ℕ) (p w : List ℕ) (y : List ℕ × List ℕ) : Type 0 where
+pub record Detailed (x : Buffers) (p w : List ℕ) (y : Buffers) : Type 0 where
   pub answer : Due.Answer
   pub right : Right p answer
   pub head : List ℕ
@@ -59,7 +69,7 @@ pub record Detailed (x : List ℕ × List ℕ) (p w : List ℕ) (y : List ℕ ×
   pub text : w ≡ head ++ rest
 
 -- With the lengths if they are asked for.
-abbrev pub ReportedBy : Bool → List ℕ × List ℕ → List ℕ → List ℕ → List ℕ × List ℕ → Type 0
+abbrev pub ReportedBy : Bool → Buffers → List ℕ → List ℕ → Buffers → Type 0
 ReportedBy true x p w y = Detailed x p w y
 ReportedBy false x p w y = Reported x p w y
 
@@ -80,8 +90,8 @@ asksDetails Looking = false
 asksDetails Details = true
 asksDetails Groups = false
 
--- The text w answers the pattern p. Groups leave table and witness buffer as they are.
-abbrev pub Answer : Asked → List ℕ × List ℕ → List ℕ → List ℕ → List ℕ × List ℕ → Type 0
+-- The text w answers the pattern p. Groups leave the buffers as they are.
+abbrev pub Answer : Asked → Buffers → List ℕ → List ℕ → Buffers → Type 0
 Answer Asked.Verdict x p w y = Judged false x p w y
 Answer Spans x p w y = Judged true x p w y
 Answer Looking x p w y = Reported x p w y
@@ -89,5 +99,5 @@ Answer Details x p w y = Detailed x p w y
 Answer Groups x p w y = Listed p w × (y ≡ x)
 
 -- The answer, of at most 20,417 bytes, is added to the n bytes that the buffer `old` held.
-abbrev pub Answered : Asked → List ℕ × List ℕ → List ℕ → List ℕ × List ℕ → List ℕ → ℕ → List ℕ → ℕ → Type 0
+abbrev pub Answered : Asked → Buffers → List ℕ → Buffers → List ℕ → ℕ → List ℕ → ℕ → Type 0
 Answered asked x p y old n new m = Printed 20417 (λ w. Answer asked x p w y) old n new m

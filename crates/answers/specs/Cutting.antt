@@ -29,7 +29,7 @@ pub data Shown (p : List ℕ) (n : ℕ) (w text : List ℕ) : Type 0 where
 
 -- For the verdict on the pattern.
 abbrev pub Explained : List ℕ → Verdict → List ℕ → List ℕ → ℕ → List ℕ → ℕ → Type 0
-Explained p x v old n new m = (t u t′ : List ℕ) → Checks p t u x t′ v → Printed (room (room 136 v) v) (SpansLineOf p x v) old n new m
+Explained p x v old n new m = (t u s t′ s′ : List ℕ) → Checks p t u s x t′ v s′ → Printed (room (room 136 v) v) (SpansLineOf p x v) old n new m
 
 -- What stands before a report: how long a match can be, if that is asked for and the pattern is not refused; else nothing, and the buffer is kept.
 pub data Begun (asked : Bool) (p : List ℕ) (old : List ℕ) (n : ℕ) (new : List ℕ) (m : ℕ) : Type 0 where

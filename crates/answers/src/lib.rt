@@ -7,7 +7,7 @@ ghost use Rattle.lines.specs.Answers.{Served};
 ghost use Rattle.lines.specs.Exchange.{Finished};
 ghost use Rattle.printing.specs.Text.{room, Printed};
 ghost use Rattle.answers.specs.Line.{LineOf};
-ghost use Rattle.answers.specs.Answer.{Judged, ReportedBy, asksDetails, Listed, Answer, Answered};
+ghost use Rattle.answers.specs.Answer.{buffers, Judged, ReportedBy, asksDetails, Listed, Answer, Answered};
 ghost use Rattle.answers.specs.Cutting.{MadeReadable, Shown, Explained, Begun};
 use checker::Verdict;
 use lines::KEPT;
@@ -15,11 +15,13 @@ use lines::SIZE;
 use lines::State;
 use matchers::Spans;
 
-// What is lent to the checker for each pattern: a table with 1,074 slots for 64 leaves and 5,041 for none, and a witness buffer. A witness has fewer bytes than there
-// are records, so none is longer than the buffer (`witness-lent`).
+// What is lent to the checker for each pattern: a table with 1,074 slots for 64 leaves and 5,041 for none, a witness buffer, and an area. A witness has fewer bytes than
+// there are records, so none is longer than the buffer (`witness-lent`), and the area is long enough for the test (`area-lent`).
 pub const TABLE: usize = 65536;
 
 pub const WITNESS: usize = 5041;
+
+pub const AREA: usize = 1024;
 
 // No printed line is longer: a report with how long a match can be, and a witness of 5,041 bytes in hex, twice.
 const LONGEST: usize = 20417;
@@ -101,19 +103,20 @@ fn explained<'a>(
     }
 }
 
-// Appends the checker's verdict on a pattern; `spans` asks for the spans of the witness and its readable form. Table and witness buffer are the checker's.
+// Appends the checker's verdict on a pattern; `spans` asks for the spans of the witness and its readable form. The buffers are the checker's.
 fn judge(
     out: &mut [u8; SIZE],
     n: usize,
     pattern: &[u8],
     table: &mut [u8; TABLE],
     witness: &mut [u8; WITNESS],
+    area: &mut [u8; AREA],
     spans: bool,
 ) -> usize
-    ensures { λ r. ⌜ Printed 20300 (λ w. Judged spans (now (table .entry), now (witness .entry)) (now (pattern .entry)) w (now (table .exit), now (witness .exit)))
+    ensures { λ r. ⌜ Printed 20300 (λ w. Judged spans (buffers (now (table .entry)) (now (witness .entry)) (now (area .entry))) (now (pattern .entry)) w (buffers (now (table .exit)) (now (witness .exit)) (now (area .exit))))
         (now (out .entry)) n (now (out .exit)) r ⌝ }
 {
-    let x = checker::check(pattern, table, witness);
+    let x = checker::check(pattern, table, witness, area);
     if spans {
         return explained(out, n, pattern, x, witness);
     }
@@ -147,13 +150,14 @@ fn report(
     pattern: &[u8],
     table: &mut [u8; TABLE],
     witness: &mut [u8; WITNESS],
+    area: &mut [u8; AREA],
     details: bool,
 ) -> usize
-    ensures { λ r. ⌜ Printed 20417 (λ w. ReportedBy details (now (table .entry), now (witness .entry)) (now (pattern .entry)) w (now (table .exit), now (witness .exit)))
+    ensures { λ r. ⌜ Printed 20417 (λ w. ReportedBy details (buffers (now (table .entry)) (now (witness .entry)) (now (area .entry))) (now (pattern .entry)) w (buffers (now (table .exit)) (now (witness .exit)) (now (area .exit))))
         (now (out .entry)) n (now (out .exit)) r ⌝ }
 {
     let start = ahead(out, n, pattern, details);
-    let x = checker::check_looking(pattern, table, witness);
+    let x = checker::check_looking(pattern, table, witness, area);
     let looking = x.looking;
     let verdict = x.verdict;
     let head = printing::looking(out, start, looking.looks, looking.comparisons);
@@ -183,25 +187,26 @@ fn asks_details(asked: Asked) -> bool
     }
 }
 
-// Appends what is asked for a pattern. Groups need neither table nor witness buffer.
+// Appends what is asked for a pattern. Groups need no buffer.
 pub fn answer(
     out: &mut [u8; SIZE],
     n: usize,
     pattern: &[u8],
     table: &mut [u8; TABLE],
     witness: &mut [u8; WITNESS],
+    area: &mut [u8; AREA],
     asked: Asked,
 ) -> usize
-    ensures answered { λ r. ⌜ Answered asked (now (table .entry), now (witness .entry)) (now (pattern .entry)) (now (table .exit), now (witness .exit))
+    ensures answered { λ r. ⌜ Answered asked (buffers (now (table .entry)) (now (witness .entry)) (now (area .entry))) (now (pattern .entry)) (buffers (now (table .exit)) (now (witness .exit)) (now (area .exit)))
         (now (out .entry)) n (now (out .exit)) r ⌝ }
 {
     let details = asks_details(asked);
     match asked {
-        Asked::Verdict => judge(out, n, pattern, table, witness, false),
-        Asked::Spans => judge(out, n, pattern, table, witness, true),
+        Asked::Verdict => judge(out, n, pattern, table, witness, area, false),
+        Asked::Spans => judge(out, n, pattern, table, witness, area, true),
         Asked::Groups => list_groups(out, n, pattern),
         // one call for both, so that a program that asks for neither is built without it
-        _ => report(out, n, pattern, table, witness, details),
+        _ => report(out, n, pattern, table, witness, area, details),
     }
 }
 
@@ -212,18 +217,19 @@ pub fn answer_lines(
     out: &mut [u8; SIZE],
     table: &mut [u8; TABLE],
     witness: &mut [u8; WITNESS],
+    area: &mut [u8; AREA],
     asked: Asked,
     state: State,
 ) -> State
-    ensures served { λ r. ⌜ Served (Answer asked) 20417 (now (chunk .entry)) (now (line .entry)) (now (out .entry)) (now (table .entry), now (witness .entry)) state
-        (now (line .exit)) (now (out .exit)) (now (table .exit), now (witness .exit)) r ⌝ }
+    ensures served { λ r. ⌜ Served (Answer asked) 20417 (now (chunk .entry)) (now (line .entry)) (now (out .entry)) (buffers (now (table .entry)) (now (witness .entry)) (now (area .entry))) state
+        (now (line .exit)) (now (out .exit)) (buffers (now (table .exit)) (now (witness .exit)) (now (area .exit))) r ⌝ }
 {
     let mut s = state;
     while s.at < s.end && lines::has_room(s.used, LONGEST) {
         s = lines::next_line(chunk, line, s);
         if s.whole {
             let pattern = lines::first_of(line, s.n);
-            s.used = answer(out, s.used, pattern, table, witness, asked);
+            s.used = answer(out, s.used, pattern, table, witness, area, asked);
         }
     }
     s
@@ -236,6 +242,7 @@ pub fn run(
     out: &mut [u8; SIZE],
     table: &mut [u8; TABLE],
     witness: &mut [u8; WITNESS],
+    area: &mut [u8; AREA],
     asked: Asked,
     first: State,
 ) -> State
@@ -245,7 +252,7 @@ pub fn run(
     s.used = 0;
     let mut turns = u64::MAX;
     while turns > 0 && lines::goes_on(s) {
-        s = answer_lines(chunk, line, out, table, witness, asked, s);
+        s = answer_lines(chunk, line, out, table, witness, area, asked, s);
         s = lines::exchange(chunk, out, s);
         turns -= 1;
     }

@@ -82,7 +82,17 @@ fn serve_patterns(
 {
     let mut table = [0u8; answers::TABLE];
     let mut witness = [0u8; answers::WITNESS];
-    answers::run(chunk, line, out, &mut table, &mut witness, asked, first)
+    let mut area = [0u8; answers::AREA];
+    answers::run(
+        chunk,
+        line,
+        out,
+        &mut table,
+        &mut witness,
+        &mut area,
+        asked,
+        first,
+    )
 }
 
 // The first line's word decides.

@@ -1,8 +1,8 @@
--- Demands 1 and 3 in their words, about the result of `check` and the content of both buffers.
+-- Demands 1 and 3 in their words, about the result of `check` and the content of both buffers and of the area.
 -- Assumes nothing.
 use mathlib.Core.Path.{_≡_, refl, ap, ap₂, _∙_, subst}
 use mathlib.Core.Logic.{_⊎_, inl, inr, _↔_, _≢_, Iff·symm, Iff·trans}
-use Prim.Native.Nat.{ℕ, _≤_}
+use Prim.Native.Nat.{ℕ, _≤_, _<_}
 use mathlib.Core.List.{List}
 use native.Mathlib.Omega.{arith}
 use lib.ListN.{length, take, drop}
@@ -10,6 +10,7 @@ use Rattle.theory.specs.Standing.{standingBy, standing}
 use Rattle.theory.specs.Base.{base, Plain, bare, turnsFirst}
 use Rattle.theory.specs.Preference.{Robust}
 use Rattle.theory.proofs.Tests.{either}
+use Rattle.extends.specs.Extends.{NoneExtends}
 use Rattle.grammar.specs.Grammar.{Alternation}
 use Rattle.grammar.specs.Limits.{Reads}
 use Rattle.grammar.specs.Refusals.{Fault}
@@ -17,15 +18,17 @@ use Rattle.grammar.specs.WriteOut.{writeOut}
 use Rattle.grammar.specs.Eager.{eagerly}
 use Rattle.verdict.specs.Record.{formOf, wide}
 use Rattle.verdict.specs.Table.{slots}
-use Rattle.verdict.specs.Checked.{Result, refused, Whole, whole, CheckedBy, Checked, by-reader}
+use Rattle.verdict.specs.Tabled.{Result, alike, refused, Whole, whole, Tabled}
+use Rattle.verdict.specs.Area.{areaBytes, cleared}
+use Rattle.verdict.specs.Checked.{CheckedBy, Checked, by-fault}
 use Rattle.verdict.specs.Demand.{NoneCut, FirstCut, Number, Outnumber, Longer}
-use Rattle.verdict.specs.Code.Found.{Found, not-read, same-cuts, first-witness, no-slot, no-room}
 use Rattle.grammar.proofs.Right.{either-way, not-both}
-use Rattle.verdict.proofs.Checked.{checked-one, checked-found}
+use Rattle.verdict.proofs.Checked.{passes-or-fails, checked-one, checked-is}
 use Rattle.verdict.proofs.Promise.{fault-number}
-use Rattle.verdict.proofs.One.{result, witness}
+use Rattle.verdict.proofs.One.{result, table, witness}
+use Rattle.verdict.proofs.ByTable.{tabled-numbers, tabled-alike}
 use Rattle.verdict.proofs.Unmoved.{plain-checked, bare-checked, eager-checked, verdict-stays}
-use Rattle.verdict.proofs.Demand.{RefusedBy, checked-is, none-robust, alike-means, unlike-means, ten-exactly, eleven-exactly, never-eleven, withheld-exactly, refused-means, lengths-kept}
+use Rattle.verdict.proofs.Demand.{RefusedBy, none-robust, short-area, test-passes, test-fails, alike-means, unlike-means, thirteen-exactly, ten-exactly, eleven-exactly, never-eleven, withheld-exactly, refused-means, lengths-kept}
 use Rattle.checker.specs.declared.Verdict.{Verdict}
 use Rattle.checker.specs.declared.Verdict.the-variants.{Alike, Unlike, Refused}
 use Rattle.checker.specs.Verdicts.{resultOf, Checks}
@@ -36,59 +39,65 @@ refused-case (Alike m) e = absurd (let z : _≡_ {A = ℕ} 0 1 = cc in omega ari
 refused-case (Unlike m k) e = absurd (let z : _≡_ {A = ℕ} 0 1 = cc in omega arith)
 refused-case {n} {q} (Refused m k) e = let a : m ≡ n = cc in let b : k ≡ q = cc in rw (a, b)
 
-module _ (p t v : List ℕ) (x : Verdict) (t′ v′ : List ℕ) (h : Checks p t v x t′ v′) where
-  -- The promise, of a verdict that is known.
-  right : {y : Verdict} → x ≡ y → Checks p t v y t′ v′
-  right e = subst (λ y. Checks p t v y t′ v′) e h
+alike-case : {n : ℕ} (x : Verdict) → resultOf x ≡ alike n → x ≡ Alike n
+alike-case {n} (Alike m) e = let a : m ≡ n = cc in rw a
+alike-case (Unlike m k) e = absurd (let z : _≡_ {A = ℕ} 0 1 = cc in omega arith)
+alike-case (Refused m k) e = absurd (let z : _≡_ {A = ℕ} 0 1 = cc in omega arith)
 
-  -- THE RESULT AND BOTH BUFFERS ARE THE ONES THAT ARE RIGHT: for every pattern, table and buffer, exactly these.
-  pub check-is : (z : Whole) → Checked p t v z ↔ (z ≡ whole (resultOf x) t′ v′)
+module _ (p t v s : List ℕ) (x : Verdict) (t′ v′ s′ : List ℕ) (h : Checks p t v s x t′ v′ s′) where
+  -- The promise, of a verdict that is known.
+  right : {y : Verdict} → x ≡ y → Checks p t v s y t′ v′ s′
+  right e = subst (λ y. Checks p t v s y t′ v′ s′) e h
+
+  -- THE RESULT, BOTH BUFFERS AND THE AREA ARE THE ONES THAT ARE RIGHT: for every pattern, table, buffer and area, exactly these.
+  pub check-is : (z : Whole) (s″ : List ℕ) → Checked p t v s z s″ ↔ ((z ≡ whole (resultOf x) t′ v′) × (s″ ≡ s′))
   check-is = checked-is h
 
-  one-result : {n q : ℕ} {t″ v″ : List ℕ} → Checked p t v (whole (refused n q) t″ v″) → x ≡ Refused n q
-  one-result c = refused-case x (ap result (checked-one h c))
+  one-result : {n q : ℕ} {t″ v″ s″ : List ℕ} → Checked p t v s (whole (refused n q) t″ v″) s″ → x ≡ Refused n q
+  one-result c = refused-case x (ap result (checked-one h c .0))
 
   -- A refusal at place 0 is the verdict exactly if it is right.
-  refusal : {n : ℕ} → (x ≡ Refused n 0) ↔ RefusedBy p t v n
-  refusal = (λ e. (t′, v′, right e), λ (t″, v″, c). one-result c)
+  refusal : {n : ℕ} → (x ≡ Refused n 0) ↔ RefusedBy p t v s n
+  refusal = (λ e. (t′, v′, s′, right e), λ (t″, v″, s″, c). one-result c)
 
-  -- REFUSED WITH 1 TO 8 exactly for the pattern's fault, and then both buffers keep every byte.
+  -- REFUSED WITH 1 TO 8 exactly for the pattern's fault, and then both buffers and the area keep every byte.
   pub check-refused : {n q : ℕ} → n ≤ 8 → (x ≡ Refused n q) ↔ Fault p n q
-  check-refused l = (λ e. refused-means (right e) l .0, λ f. one-result (by-reader f))
+  check-refused l = (λ e. refused-means (right e) l .0, λ f. one-result (by-fault f))
 
-  pub check-kept : {n q : ℕ} → n ≤ 8 → x ≡ Refused n q → (t′ ≡ t) × (v′ ≡ v)
-  check-kept l e = let (f, g, k) = refused-means (right e) l in (g, k)
+  pub check-kept : {n q : ℕ} → n ≤ 8 → x ≡ Refused n q → (t′ ≡ t) × (v′ ≡ v) × (s′ ≡ s)
+  check-kept l e = let (f, g, k, m) = refused-means (right e) l in (g, k, m)
 
   -- REFUSED WITH 1 TO 8 exactly where there is no tree within the limits.
   pub check-refuses : ((n q : ℕ) × (n ≤ 8) × (x ≡ Refused n q)) ↔ ((a : Alternation) → Reads p a → ⊥)
   check-refuses = (
     λ (n, q, l, e) a i. not-both p a n q i (check-refused l .0 e),
-    λ none. either (λ (a, i). absurd (none a i)) (λ (n, q, f). (n, q, fault-number f, one-result (by-reader f))) (either-way p),
+    λ none. either (λ (a, i). absurd (none a i)) (λ (n, q, f). (n, q, fault-number f, one-result (by-fault f))) (either-way p),
   )
 
   -- AS BEFORE THE REQUESTS: what `check` hands over for a plain pattern is the one right result by paper 01's list as it was.
-  pub check-plain : ((a : Alternation) → Reads p a → Plain (writeOut a)) → (z : Whole) → CheckedBy formOf (standingBy base) p t v z ↔ (z ≡ whole (resultOf x) t′ v′)
-  check-plain d z = Iff·trans (Iff·symm (plain-checked z d)) (check-is z)
+  pub check-plain : ((a : Alternation) → Reads p a → Plain (writeOut a)) → (z : Whole) (s″ : List ℕ) → CheckedBy formOf (standingBy base) p t v s z s″ ↔ ((z ≡ whole (resultOf x) t′ v′) × (s″ ≡ s′))
+  check-plain d z s″ = Iff·trans (Iff·symm (plain-checked z s″ d)) (check-is z s″)
 
   -- AND FOR EVERY PATTERN the one of the pattern without its brackets.
-  pub check-bare : (z : Whole) → CheckedBy formOf (λ r. standing (bare r)) p t v z ↔ (z ≡ whole (resultOf x) t′ v′)
-  check-bare z = Iff·trans (Iff·symm (bare-checked z)) (check-is z)
+  pub check-bare : (z : Whole) (s″ : List ℕ) → CheckedBy formOf (λ r. standing (bare r)) p t v s z s″ ↔ ((z ≡ whole (resultOf x) t′ v′) × (s″ ≡ s′))
+  check-bare z s″ = Iff·trans (Iff·symm (bare-checked z s″)) (check-is z s″)
 
   -- AND FOR A PATTERN WITHOUT LAZY REPEATS the one by the list in which every repeat takes its turns first.
-  pub check-eager : ((a : Alternation) → Reads p a → eagerly a ≡ a) → (z : Whole) → CheckedBy formOf (standingBy turnsFirst) p t v z ↔ (z ≡ whole (resultOf x) t′ v′)
-  check-eager u z = Iff·trans (Iff·symm (eager-checked z u)) (check-is z)
+  pub check-eager : ((a : Alternation) → Reads p a → eagerly a ≡ a) → (z : Whole) (s″ : List ℕ) → CheckedBy formOf (standingBy turnsFirst) p t v s z s″ ↔ ((z ≡ whole (resultOf x) t′ v′) × (s″ ≡ s′))
+  check-eager u z s″ = Iff·trans (Iff·symm (eager-checked z s″ u)) (check-is z s″)
 
   -- AND WITH PAPER 01'S RECORDS OF 64 BYTES, where they had slots enough in the table: the same result, count and witness.
-  pub check-stays : {y : Result} {t″ v″ : List ℕ} → y ≢ refused 10 0 → CheckedBy (λ r. wide) standing p t v (whole y t″ v″) → (resultOf x ≡ y) × (v′ ≡ v″)
-  check-stays other old = let (u, c) = verdict-stays other old in let e = checked-one h c in (ap result e, ap witness e)
+  pub check-stays : {y : Result} {t″ v″ s″ : List ℕ} → y ≢ refused 10 0 → CheckedBy (λ r. wide) standing p t v s (whole y t″ v″) s″ → (resultOf x ≡ y) × (v′ ≡ v″)
+  check-stays other old = let (u, c) = verdict-stays other old in let e = checked-one h c .0 in (ap result e, ap witness e)
 
-  -- The buffers keep their lengths.
-  pub check-lengths : (length t′ ≡ length t) × (length v′ ≡ length v)
+  -- The buffers and the area keep their lengths.
+  pub check-lengths : (length t′ ≡ length t) × (length v′ ≡ length v) × (length s′ ≡ length s)
   check-lengths = lengths-kept h
 
   module _ (a : Alternation) (reads : Reads p a) where
-    -- ALIKE: no sequence of bytes, however long, is cut differently, and the count is the number of distinct standings.
-    pub check-alike : {n : ℕ} → x ≡ Alike n → NoneCut (writeOut a) × Number (writeOut a) n
+    -- ALIKE: no sequence of bytes, however long, is cut differently. The count is 0 exactly if no matched string extends to a longer matched one, and else the number
+    -- of distinct standings.
+    pub check-alike : {n : ℕ} → x ≡ Alike n → NoneCut (writeOut a) × (0 < n → Number (writeOut a) n) × ((n ≡ 0) ↔ NoneExtends (writeOut a))
     check-alike e = alike-means a reads (right e)
 
     -- UNLIKE: the sequence handed over, the first k bytes of the witness buffer, is cut differently, and every other that is cut differently is longer, or as long and
@@ -105,38 +114,60 @@ module _ (p t v : List ℕ) (x : Verdict) (t′ v′ : List ℕ) (h : Checks p t
     pub check-not-robust : {n k : ℕ} → Plain (writeOut a) → x ≡ Unlike n k → Robust 256 (writeOut a) → ⊥
     check-not-robust {k = k} d e f = let c = check-unlike e .0 in none-robust (writeOut a) d .1 f (take k v′) (c .bytes) (c .cut)
 
-    -- WITHHELD: exactly if the distinct standings of the lines that no line cut differently comes before outnumber the slots, or the first line cut differently is
-    -- longer than the buffer;
-    pub check-withheld : ((x ≡ Refused 10 0) ⊎ (x ≡ Refused 11 0)) ↔ (Outnumber (writeOut a) (slots (formOf (writeOut a)) (length t)) ⊎ Longer (writeOut a) (length v))
-    check-withheld = (
-      λ c. withheld-exactly a reads .0 (either (λ e. inl (refusal .0 e)) (λ e. inr (refusal .0 e)) c),
-      λ o. either (λ c. inl (refusal .1 c)) (λ c. inr (refusal .1 c)) (withheld-exactly a reads .1 o),
-    )
+    -- REFUSED WITH 13 exactly if the area is below 1,024 bytes, and then every buffer is unchanged.
+    pub check-thirteen : (x ≡ Refused 13 0) ↔ (length s < areaBytes)
+    check-thirteen = Iff·trans refusal (thirteen-exactly a reads)
 
-    -- WITH 10 exactly if they outnumber the slots,
-    pub check-ten : (x ≡ Refused 10 0) ↔ Outnumber (writeOut a) (slots (formOf (writeOut a)) (length t))
-    check-ten = Iff·trans refusal (ten-exactly a reads)
+    pub check-short : length s < areaBytes → (t′ ≡ t) × (v′ ≡ v) × (s′ ≡ s)
+    check-short l = let (e, k) = short-area a reads l .0 h in (ap table e, ap witness e, k)
 
-    -- WITH 11 exactly if they do not, and that line is longer than the buffer.
-    pub check-eleven : (x ≡ Refused 11 0) ↔ ((Outnumber (writeOut a) (slots (formOf (writeOut a)) (length t)) → ⊥) × Longer (writeOut a) (length v))
-    check-eleven = Iff·trans refusal (eleven-exactly a reads)
+    -- Of an area that is long enough.
+    module _ (room : areaBytes ≤ length s) where
+      -- AFTERWARDS ITS FIRST 1,024 BYTES ARE ZERO, and the rest is kept.
+      pub check-area : s′ ≡ cleared s
+      check-area = either (λ none. test-passes a reads room none .0 h .1) (λ fails. test-fails a reads room fails .0 h .1) (passes-or-fails a)
 
-    -- NEVER WITH 11 where the buffer has a byte for each slot.
-    pub check-room : slots (formOf (writeOut a)) (length t) ≤ length v → x ≢ Refused 11 0
-    check-room room e = never-eleven a reads room (refusal .0 e)
+      -- ALIKE WITHOUT A TABLE: with count 0 exactly if no matched string extends to a longer matched one, whatever table and buffer are, and they keep every byte.
+      pub check-untabled : (x ≡ Alike 0) ↔ NoneExtends (writeOut a)
+      check-untabled = (λ e. check-alike e .2 .0 refl, λ none. alike-case x (ap result (test-passes a reads room none .0 h .0)))
 
-    -- OTHERWISE it is a verdict, and carries their number.
-    pub check-decides : (Outnumber (writeOut a) (slots (formOf (writeOut a)) (length t)) → ⊥) → (Longer (writeOut a) (length v) → ⊥) → ((n : ℕ) × (x ≡ Alike n)) ⊎ ((n k : ℕ) × (x ≡ Unlike n k))
-    check-decides f g = go x refl
-      where
-        withheld : {n q : ℕ} → x ≡ Refused n q → Found p t v (refused n q) t′ v′ → ⊥
-        withheld i (not-read {n = m} {q = k} j e c d) = not-both p a m k reads j
-        withheld i (same-cuts j k l e c d) = absurd (let z : _≡_ {A = ℕ} 0 1 = cc in omega arith)
-        withheld i (first-witness j k l m e c d) = absurd (let z : _≡_ {A = ℕ} 0 1 = cc in omega arith)
-        withheld {n} {q} i (no-slot j k l e c d) = let y : n ≡ 10 = cc in let z : q ≡ 0 = cc in either f g (check-withheld .0 (inl (i ∙ ap₂ Refused y z)))
-        withheld {n} {q} i (no-room j k l m e c d) = let y : n ≡ 11 = cc in let z : q ≡ 0 = cc in either f g (check-withheld .0 (inr (i ∙ ap₂ Refused y z)))
+      pub check-untouched : NoneExtends (writeOut a) → (t′ ≡ t) × (v′ ≡ v)
+      check-untouched none = let e = test-passes a reads room none .0 h .0 in (ap table e, ap witness e)
 
-        go : (y : Verdict) → x ≡ y → ((n : ℕ) × (x ≡ Alike n)) ⊎ ((n k : ℕ) × (x ≡ Unlike n k))
-        go (Alike n) e = inl (n, e)
-        go (Unlike n k) e = inr (n, k, e)
-        go (Refused n q) e = absurd (withheld e (checked-found (right e)))
+      -- NEVER WITH 11 where the buffer has a byte for each slot.
+      pub check-room : slots (formOf (writeOut a)) (length t) ≤ length v → x ≢ Refused 11 0
+      check-room enough e = never-eleven a reads room enough (refusal .0 e)
+
+      -- Of patterns that fail the test.
+      module _ (fails : NoneExtends (writeOut a) → ⊥) where
+        -- AS BEFORE THE TEST: result and both buffers are those of the records.
+        pub check-tabled : Tabled p t v (whole (resultOf x) t′ v′)
+        check-tabled = test-fails a reads room fails .0 h .0
+
+        -- WITHHELD: exactly if the distinct standings of the lines that no line cut differently comes before outnumber the slots, or the first line cut differently is
+        -- longer than the buffer;
+        pub check-withheld : ((x ≡ Refused 10 0) ⊎ (x ≡ Refused 11 0)) ↔ (Outnumber (writeOut a) (slots (formOf (writeOut a)) (length t)) ⊎ Longer (writeOut a) (length v))
+        check-withheld = (
+          λ c. withheld-exactly a reads room fails .0 (either (λ e. inl (refusal .0 e)) (λ e. inr (refusal .0 e)) c),
+          λ o. either (λ c. inl (refusal .1 c)) (λ c. inr (refusal .1 c)) (withheld-exactly a reads room fails .1 o),
+        )
+
+        -- WITH 10 exactly if they outnumber the slots,
+        pub check-ten : (x ≡ Refused 10 0) ↔ Outnumber (writeOut a) (slots (formOf (writeOut a)) (length t))
+        check-ten = Iff·trans refusal (ten-exactly a reads room fails)
+
+        -- WITH 11 exactly if they do not, and that line is longer than the buffer.
+        pub check-eleven : (x ≡ Refused 11 0) ↔ ((Outnumber (writeOut a) (slots (formOf (writeOut a)) (length t)) → ⊥) × Longer (writeOut a) (length v))
+        check-eleven = Iff·trans refusal (eleven-exactly a reads room fails)
+
+        -- OTHERWISE it is a verdict, and carries their number.
+        pub check-decides : (Outnumber (writeOut a) (slots (formOf (writeOut a)) (length t)) → ⊥) → (Longer (writeOut a) (length v) → ⊥)
+            → ((n : ℕ) × (x ≡ Alike n) × Number (writeOut a) n) ⊎ ((n k : ℕ) × (x ≡ Unlike n k) × Number (writeOut a) n)
+        check-decides f g = go x refl
+          where
+            go : (y : Verdict) → x ≡ y → ((n : ℕ) × (x ≡ Alike n) × Number (writeOut a) n) ⊎ ((n k : ℕ) × (x ≡ Unlike n k) × Number (writeOut a) n)
+            go (Alike n) e = inl (n, e, tabled-alike a reads (subst (λ y. Tabled p t v (whole (resultOf y) t′ v′)) e check-tabled) .1)
+            go (Unlike n k) e = inr (n, k, e, check-unlike e .1)
+            go (Refused n q) e =
+                let (number, place) = tabled-numbers reads (subst (λ y. Tabled p t v (whole (resultOf y) t′ v′)) e check-tabled) in
+                absurd (either f g (check-withheld .0 (either (λ i. inl (e ∙ ap₂ Refused i place)) (λ i. inr (e ∙ ap₂ Refused i place)) number)))

@@ -1,25 +1,34 @@
 -- How much looking a check takes (request 4 of paper 02).
 -- Assumes nothing.
-use Prim.Native.Nat.{ℕ}
+use mathlib.Core.Logic.{_⊎_}
+use Prim.Native.Nat.{ℕ, _≤_, _<_}
 use mathlib.Core.List.{List}
 use lib.ListN.{length}
+use Rattle.extends.specs.Extends.{NoneExtends}
 use Rattle.grammar.specs.Grammar.{Alternation}
 use Rattle.grammar.specs.Limits.{Reads}
 use Rattle.grammar.specs.Refusals.{Fault}
 use Rattle.grammar.specs.WriteOut.{writeOut}
 use Rattle.verdict.specs.Record.{formOf}
 use Rattle.verdict.specs.Table.{slots}
+use Rattle.verdict.specs.Area.{areaBytes}
 use Rattle.search.specs.declared.Looking.{Looking}
 use Rattle.search.specs.Looking.{Takes}
 use Rattle.checker.specs.declared.Report.{Report}
 use Rattle.checker.specs.Verdicts.{Checks}
 
--- For the pattern p and the table t. "A refused pattern goes no further than the reader": there is no look. Else it is what the search takes with the table's slots.
-pub data LooksFor (p t : List ℕ) : Looking → Type 0 where
-  unread : {n q : ℕ} → Fault p n q → LooksFor p t (record { looks = 0; comparisons = 0 })
-  searched : {a : Alternation} {y : Looking} → Reads p a → Takes (writeOut a) (slots (formOf (writeOut a)) (length t)) y → LooksFor p t y
+-- There is no look.
+abbrev pub noLooking : Looking
+noLooking = record { looks = 0; comparisons = 0 }
 
--- The verdict with what table and buffer then hold, and the looking.
-pub record Reports (p t v : List ℕ) (x : Report) (t′ v′ : List ℕ) : Type 0 where
-  pub checks : Checks p t v (x .verdict) t′ v′
-  pub looks : LooksFor p t (x .looking)
+-- For the pattern p, the table t and the area s. "A refused pattern goes no further than the reader", and no record is looked for where the area is too short or the
+-- test passes. Else it is what the search takes with the table's slots.
+pub data LooksFor (p t s : List ℕ) : Looking → Type 0 where
+  unread : {n q : ℕ} → Fault p n q → LooksFor p t s noLooking
+  unsearched : {a : Alternation} → Reads p a → (length s < areaBytes) ⊎ NoneExtends (writeOut a) → LooksFor p t s noLooking
+  searched : {a : Alternation} {y : Looking} → Reads p a → areaBytes ≤ length s → (NoneExtends (writeOut a) → ⊥) → Takes (writeOut a) (slots (formOf (writeOut a)) (length t)) y → LooksFor p t s y
+
+-- The verdict with what table, buffer and area then hold, and the looking.
+pub record Reports (p t v s : List ℕ) (x : Report) (t′ v′ s′ : List ℕ) : Type 0 where
+  pub checks : Checks p t v s (x .verdict) t′ v′ s′
+  pub looks : LooksFor p t s (x .looking)

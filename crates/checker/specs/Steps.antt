@@ -4,7 +4,7 @@ use mathlib.Core.Path.{_≡_}
 use Prim.Native.Nat.{ℕ, _-_, _≤_, _<_}
 use mathlib.Core.List.{List}
 use lib.ListN.{length}
-use Rattle.theory.specs.Pattern.{count, Numbered}
+use Rattle.theory.specs.Pattern.{Re, count, Numbered}
 use Rattle.grammar.specs.Grammar.{Alternation}
 use Rattle.grammar.specs.Limits.{Reads}
 use Rattle.grammar.specs.WriteOut.{writeOut}
@@ -14,9 +14,11 @@ use Rattle.verdict.specs.Code.Found.{Found}
 use Rattle.arrays.specs.declared.Pattern.{Pattern}
 use Rattle.arrays.specs.Decoded.{decode}
 use Rattle.arrays.specs.Finished.{HoldsPattern}
+use Rattle.standing.specs.Stands.{Arrays, Lent}
+use Rattle.search.specs.Looking.{Takes}
 use Rattle.checker.specs.Origins.{Line}
 use Rattle.checker.specs.Verdicts.{resultOf}
-use Rattle.search.specs.Looking.{Takes}
+use Rattle.checker.specs.Looking.{Reports}
 use Rattle.checker.specs.declared.Verdict.{Verdict}
 use Rattle.checker.specs.declared.Report.{Report}
 use Rattle.checker.specs.declared.Verdict.the-variants.{Unlike, Refused}
@@ -32,7 +34,15 @@ pub data Handed (m : ℕ) (t : List ℕ) (n : ℕ) (v : List ℕ) : Verdict → 
   given : {w : List ℕ} → Line m t (n - 1) w → length w ≤ length v → Handed m t n v (Unlike n (length w)) (onto v w)
   too-long : {w : List ℕ} → Line m t (n - 1) w → length v < length w → Handed m t n v (Refused 11 0) v
 
+-- What the records say, where the arrays of a pattern are lent and its records have m bytes.
+pub record Recorded (a : Arrays) (m : ℕ) (t v : List ℕ) (y : Report) (t′ v′ : List ℕ) : Type 0 where
+  pub found : {p : List ℕ} {b : Alternation} → Reads p b → Lent (writeOut b) a → m ≡ formOf (writeOut b) .bytes → Found p t v (resultOf (y .verdict)) t′ v′
+  pub looks : {r : Re} → Lent r a → m ≡ formOf r .bytes → Takes r (slots (formOf r) (length t)) (y .looking)
+
+-- The arrays are a pattern's, and its records have m bytes.
+abbrev pub Known : Arrays → ℕ → Type 0
+Known a m = (r : Re) × Lent r a × (m ≡ formOf r .bytes)
+
 -- What is decided by the arrays of a pattern that is read.
-pub record Decides (x : Pattern) (t v : List ℕ) (y : Report) (t′ v′ : List ℕ) : Type 0 where
-  pub found : {p : List ℕ} {a : Alternation} → Reads p a → decode x ≡ writeOut a → Found p t v (resultOf (y .verdict)) t′ v′
-  pub looks : Takes (decode x) (slots (formOf (decode x)) (length t)) (y .looking)
+pub record Decides (x : Pattern) (t v s : List ℕ) (y : Report) (t′ v′ s′ : List ℕ) : Type 0 where
+  pub reports : {p : List ℕ} {a : Alternation} → Reads p a → decode x ≡ writeOut a → Reports p t v s y t′ v′ s′

@@ -2,7 +2,8 @@
 -- Assumes nothing.
 use Prim.Native.Nat.{ℕ}
 use mathlib.Core.List.{List}
-use Rattle.verdict.specs.Checked.{Result, alike, unlike, refused, whole, Checked}
+use Rattle.verdict.specs.Tabled.{Result, alike, unlike, refused, whole}
+use Rattle.verdict.specs.Checked.{Checked}
 use Rattle.checker.specs.declared.Verdict.{Verdict}
 use Rattle.checker.specs.declared.Verdict.the-variants.{Alike, Unlike, Refused}
 
@@ -12,6 +13,6 @@ resultOf (Alike n) = alike n
 resultOf (Unlike n k) = unlike n k
 resultOf (Refused n q) = refused n q
 
--- For the pattern p, the table t and the witness buffer v: the verdict, and what table and buffer then hold, are those of paper 01.
-abbrev pub Checks : List ℕ → List ℕ → List ℕ → Verdict → List ℕ → List ℕ → Type 0
-Checks p t v x t′ v′ = Checked p t v (whole (resultOf x) t′ v′)
+-- For the pattern p, the table t, the witness buffer v and the area s: the verdict, and what table, buffer and area then hold, are those of the papers.
+abbrev pub Checks : List ℕ → List ℕ → List ℕ → List ℕ → Verdict → List ℕ → List ℕ → List ℕ → Type 0
+Checks p t v s x t′ v′ s′ = Checked p t v s (whole (resultOf x) t′ v′) s′

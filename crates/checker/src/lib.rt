@@ -1,17 +1,21 @@
-// The checker: from a pattern's bytes, a table and a witness buffer of any lengths to a verdict. Paper 01, "Standings and their records" and "Refusals".
+// The checker: from a pattern's bytes, a table, a witness buffer and an area of any lengths to a verdict. Paper 01, "Standings and their records" and "Refusals"; paper
+// 02, request 8: the test that needs no table comes first.
+ghost use mathlib.Core.Path.{_≡_};
 ghost use Prim.Native.Nat.{_-_, _<_};
+ghost use Rattle.standing.specs.Stands.{arrays};
 ghost use Rattle.checker.specs.Verdicts.{Checks};
-ghost use Rattle.checker.specs.Looking.{Reports};
-ghost use Rattle.checker.specs.Steps.{Sound, Handed, Decides};
+ghost use Rattle.checker.specs.Looking.{noLooking, Reports};
+ghost use Rattle.checker.specs.Steps.{Sound, Handed, Recorded, Known, Decides};
 ghost use Rattle.checker.specs.Origins.{Lined, Length, Fits, Written};
 use arrays::Pattern;
+use pairs::Ending;
 use reader::Answer;
 use search::Looking;
 use search::Progress;
 
 // The verdict, or the refusal with paper 01's number and place.
 pub enum Verdict {
-    // no line is cut differently: the number of records
+    // no line is cut differently: the number of records, 0 if the test settled it
     Alike { count: usize },
     // the number of records, and the length of the first line that is cut differently: it stands in the witness buffer
     Unlike { count: usize, length: usize },
@@ -72,19 +76,31 @@ fn hand_over(n: usize, table: &[u8], width: usize, witness: &mut [u8]) -> Verdic
     }
 }
 
-// The verdict on the pattern whose arrays these are.
-fn decide(x: Pattern, table: &mut [u8], witness: &mut [u8]) -> Report
-    requires { ⌜ Sound x ⌝ }
-    ensures { λ r. ⌜ Decides x (now (table .entry)) (now (witness .entry)) r (now (table .exit)) (now (witness .exit)) ⌝ }
+// No look through the records.
+fn no_looking() -> Looking
+    ensures { λ r. ⌜ r ≡ noLooking ⌝ }
 {
-    let masks = x.masks;
-    let width = records::width(x.leaves);
-    let tables = follow::tables_of(x);
-    let rows = tables.rows;
-    let lens = tables.lens;
-    let sets = tables.sets;
-    let ends = tables.ends;
-    let course = search::search(table, width, &masks, &rows, &lens, &sets, &ends);
+    Looking {
+        looks: 0,
+        comparisons: 0,
+    }
+}
+
+// What the records say of the pattern whose masks and follow tables are lent, and whose records have that width.
+fn by_records<'a>(
+    table: &mut [u8],
+    witness: &mut [u8],
+    width: usize,
+    masks: &'a [u64; 256],
+    rows: &'a [u8; 4225],
+    lens: &'a [u8; 65],
+    sets: &'a [u64; 65],
+    ends: &'a [u8; 65],
+) -> Report
+    requires { ⌜ Known (arrays (now masks) (now rows) (now lens) (now sets) (now ends)) width ⌝ }
+    ensures { λ r. ⌜ Recorded (arrays (now (masks .entry)) (now (rows .entry)) (now (lens .entry)) (now (sets .entry)) (now (ends .entry))) width (now (table .entry)) (now (witness .entry)) r (now (table .exit)) (now (witness .exit)) ⌝ }
+{
+    let course = search::search(table, width, masks, rows, lens, sets, ends);
     let looking = course.looking;
     let found = course.progress;
     match found {
@@ -106,28 +122,62 @@ fn decide(x: Pattern, table: &mut [u8], witness: &mut [u8]) -> Report
     }
 }
 
+// The verdict on the pattern whose arrays these are: by the test, and by the records if it fails.
+fn decide(x: Pattern, table: &mut [u8], witness: &mut [u8], area: &mut [u8]) -> Report
+    requires { ⌜ Sound x ⌝ }
+    ensures { λ r. ⌜ Decides x (now (table .entry)) (now (witness .entry)) (now (area .entry)) r (now (table .exit)) (now (witness .exit)) (now (area .exit)) ⌝ }
+{
+    let masks = x.masks;
+    let leaves = x.leaves;
+    let tables = follow::tables_of(x);
+    let sets = tables.sets;
+    let ends = tables.ends;
+    let ending = pairs::test(area, &masks, &sets, &ends);
+    match ending {
+        Ending::NoArea => Report {
+            verdict: Verdict::Refused {
+                number: 13,
+                place: 0,
+            },
+            looking: no_looking(),
+        },
+        Ending::Passes => Report {
+            verdict: Verdict::Alike { count: 0 },
+            looking: no_looking(),
+        },
+        Ending::Fails => {
+            let width = records::width(leaves);
+            let rows = tables.rows;
+            let lens = tables.lens;
+            by_records(table, witness, width, &masks, &rows, &lens, &sets, &ends)
+        }
+    }
+}
+
 // Reads the pattern, decides whether the two readings can ever differ, and says how much looking that took. A refused pattern goes no further than the reader.
-pub fn check_looking(pattern: &[u8], table: &mut [u8], witness: &mut [u8]) -> Report
-    ensures reported { λ r. ⌜ Reports (now (pattern .entry)) (now (table .entry)) (now (witness .entry)) r (now (table .exit)) (now (witness .exit)) ⌝ }
+pub fn check_looking(
+    pattern: &[u8],
+    table: &mut [u8],
+    witness: &mut [u8],
+    area: &mut [u8],
+) -> Report
+    ensures reported { λ r. ⌜ Reports (now (pattern .entry)) (now (table .entry)) (now (witness .entry)) (now (area .entry)) r (now (table .exit)) (now (witness .exit)) (now (area .exit)) ⌝ }
 {
     let reading = reader::read(pattern);
     let answer = reading.answer;
     let Answer::Refused { number, place } = answer else {
         let arrays = reading.pattern;
-        return decide(arrays, table, witness);
+        return decide(arrays, table, witness, area);
     };
     Report {
         verdict: Verdict::Refused { number, place },
-        looking: Looking {
-            looks: 0,
-            comparisons: 0,
-        },
+        looking: no_looking(),
     }
 }
 
 // The verdict alone.
-pub fn check(pattern: &[u8], table: &mut [u8], witness: &mut [u8]) -> Verdict
-    ensures checked { λ r. ⌜ Checks (now (pattern .entry)) (now (table .entry)) (now (witness .entry)) r (now (table .exit)) (now (witness .exit)) ⌝ }
+pub fn check(pattern: &[u8], table: &mut [u8], witness: &mut [u8], area: &mut [u8]) -> Verdict
+    ensures checked { λ r. ⌜ Checks (now (pattern .entry)) (now (table .entry)) (now (witness .entry)) (now (area .entry)) r (now (table .exit)) (now (witness .exit)) (now (area .exit)) ⌝ }
 {
-    check_looking(pattern, table, witness).verdict
+    check_looking(pattern, table, witness, area).verdict
 }

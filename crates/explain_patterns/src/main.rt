@@ -10,12 +10,14 @@ fn main() {
     let mut out = [0u8; SIZE];
     let mut table = [0u8; answers::TABLE];
     let mut witness = [0u8; answers::WITNESS];
+    let mut area = [0u8; answers::AREA];
     let s = answers::run(
         &mut chunk,
         &mut line,
         &mut out,
         &mut table,
         &mut witness,
+        &mut area,
         Asked::Spans,
         lines::start(),
     );

@@ -65,15 +65,18 @@ module _ {t : Tables} {k : ℕ} (summed : Summed t k) (l : List Next) (is : row 
       go (no n) = ne-eqb (getD (t .ends) k 0) 1 n ∙ sym (summed .no-end (omega (arith, summed .flag)))
 
 module _ {r : Re} {a : Arrays} (lent : Lent r a) where
-  leaf-wants : (p q : ℕ) → p < count r → q < 64 → hasBit (getD (a .sets) (suc p) 0) q ≡ member q (wanted (follow r p))
+  pub leaf-wants : (p q : ℕ) → p < count r → q < 64 → hasBit (getD (a .sets) (suc p) 0) q ≡ member q (wanted (follow r p))
   leaf-wants p q h k = row-wants (lent .follows .summed (suc p) h) (follow r p) (lent .follows .after p h ∙ closureAfter-right r p) q k
 
-  leaf-end : (p : ℕ) → p < count r → eqb (getD (a .ends) (suc p) 0) 1 ≡ hasEnd (follow r p)
+  pub leaf-end : (p : ℕ) → p < count r → eqb (getD (a .ends) (suc p) 0) 1 ≡ hasEnd (follow r p)
   leaf-end p h = row-end (lent .follows .summed (suc p) h) (follow r p) (lent .follows .after p h ∙ closureAfter-right r p)
 
   -- The first leaves, and whether the pattern matches the empty line.
+  pub first-wants : (q : ℕ) → q < 64 → hasBit (getD (a .sets) 0 0) q ≡ member q (wanted (start r))
+  first-wants q h = row-wants (lent .follows .summed 0 (omega arith)) (start r) (lent .follows .start ∙ closure-right r) q h
+
   pub first-leaves : leavesIn (count r) (getD (a .sets) 0 0) ≡ setOf r (wanted (start r))
-  first-leaves = filter-cut _ _ 0 (count r) λ p h. row-wants (lent .follows .summed 0 (omega arith)) (start r) (lent .follows .start ∙ closure-right r) p (omega (arith, lent .most))
+  first-leaves = filter-cut _ _ 0 (count r) λ p h. first-wants p (omega (arith, lent .most))
 
   pub empty-line : eqb (getD (a .ends) 0 0) 1 ≡ hasEnd (start r)
   empty-line = row-end (lent .follows .summed 0 (omega arith)) (start r) (lent .follows .start ∙ closure-right r)

@@ -31,8 +31,8 @@ pub fn carried<'a>(took: u64, sets: &'a [u64; 65]) -> u64
 }
 
 // The leaves whose row has the end.
-fn ending_leaves<'a>(ends: &'a [u8; 65]) -> u64
-    ensures { λ r. ⌜ Endings (now (ends .entry)) r ⌝ }
+pub fn ending_leaves<'a>(ends: &'a [u8; 65]) -> u64
+    ensures endings { λ r. ⌜ Endings (now (ends .entry)) r ⌝ }
 {
     let mut x = 0u64;
     let mut p = 0;

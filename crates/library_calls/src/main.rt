@@ -1,6 +1,7 @@
-// Calls the checker as a library, a call a line: 'PATTERN TABLE WITNESS', that is the pattern in hex ('-' if it is empty) and how many bytes of table and witness
-// buffer are lent. Before each call every byte of both arrays is set, also beyond what is lent. Prints the verdict's line, then what the lent table and the lent
-// witness buffer hold, in hex, a line each, and 'kept' if no byte beyond them has changed, else 'touched'. A field that is no number counts as 0.
+// Calls the checker as a library, a call a line: 'PATTERN TABLE WITNESS AREA', that is the pattern in hex ('-' if it is empty) and how many bytes of table, witness
+// buffer and area are lent. Before each call every byte of the three arrays is set, also beyond what is lent. Prints the verdict's line, then what the lent table and the
+// lent witness buffer hold, in hex, a line each; of the lent area how many zero bytes it begins with, as four hex digits, and the rest in hex; and 'kept' if no byte
+// beyond them has changed, else 'touched'. A field that is no number counts as 0.
 ghost use Prim.Native.Nat.{_≤_, _<_};
 ghost use lib.ListN.{length};
 ghost use Rattle.lines.specs.Exchange.{Finished};
@@ -14,12 +15,16 @@ const TABLE: usize = 8192;
 
 const WITNESS: usize = 1024;
 
+const AREA: usize = 2048;
+
 const PATTERN: usize = 512;
 
 // What every byte is before a call.
 const TABLE_BYTE: u8 = 170;
 
 const WITNESS_BYTE: u8 = 187;
+
+const AREA_BYTE: u8 = 204;
 
 // The value of a hex digit, 0 for any other byte.
 fn value(b: u8) -> u8
@@ -32,13 +37,13 @@ fn value(b: u8) -> u8
     }
 }
 
-// The first space from the place `at` on, or the end.
-fn space_from(s: &[u8], at: usize) -> usize
+// The first place from `at` on whose byte is b, or, if `other`, is another; or the end.
+fn first_from(s: &[u8], at: usize, b: u8, other: bool) -> usize
     ensures { λ r. ⌜ r ≤ length (now (s .entry)) ⌝ }
 {
     let mut i = 0;
     while i < s.len() {
-        if at <= i && s[i] == b' ' {
+        if at <= i && (s[i] == b) != other {
             return i;
         }
         i += 1;
@@ -99,7 +104,7 @@ fn only(s: &[u8], from: usize, b: u8) -> bool {
     true
 }
 
-// Calls the checker with the first p bytes as the pattern: the first t bytes of the table and the first w of the witness buffer are lent.
+// Calls the checker with the first p bytes as the pattern: the first t bytes of the table, the first w of the witness buffer and the first a of the area are lent.
 fn lend(
     pattern: &[u8; PATTERN],
     p: usize,
@@ -107,14 +112,25 @@ fn lend(
     t: usize,
     witness: &mut [u8],
     w: usize,
+    area: &mut [u8],
+    a: usize,
 ) -> Verdict
-    requires { ⌜ (t ≤ length (now table)) × (w ≤ length (now witness)) ⌝ }
+    requires { ⌜ (t ≤ length (now table)) × (w ≤ length (now witness)) × (a ≤ length (now area)) ⌝ }
 {
     checker::check(
         lines::first_of(pattern, p),
         &mut table[..t],
         &mut witness[..w],
+        &mut area[..a],
     )
+}
+
+// An area, whose zero bytes are counted.
+fn area_lines(out: &mut [u8; SIZE], n: usize, s: &[u8]) -> usize {
+    let zero = first_from(s, 0, 0, true);
+    let count = [(zero / 256 % 256) as u8, (zero % 256) as u8];
+    let m = printing::bytes(out, n, &count);
+    printing::bytes(out, m, &s[zero..])
 }
 
 // What the arrays hold after a call.
@@ -123,15 +139,18 @@ fn report(
     n: usize,
     table: &[u8; TABLE],
     witness: &[u8; WITNESS],
+    area: &[u8; AREA],
     t: usize,
     w: usize,
+    a: usize,
 ) -> usize {
     let rows = printing::bytes(out, n, lines::first_of(table, t));
     let line = printing::bytes(out, rows, lines::first_of(witness, w));
-    if only(table, t, TABLE_BYTE) && only(witness, w, WITNESS_BYTE) {
-        return printing::text(out, line, b"kept");
+    let end = area_lines(out, line, lines::first_of(area, a));
+    if only(table, t, TABLE_BYTE) && only(witness, w, WITNESS_BYTE) && only(area, a, AREA_BYTE) {
+        return printing::text(out, end, b"kept");
     }
-    printing::text(out, line, b"touched")
+    printing::text(out, end, b"touched")
 }
 
 // One call, and what it did.
@@ -141,18 +160,22 @@ fn call(
     line: &[u8],
     table: &mut [u8; TABLE],
     witness: &mut [u8; WITNESS],
+    area: &mut [u8; AREA],
 ) -> usize {
     let mut pattern = [0u8; PATTERN];
-    let first = space_from(line, 0);
-    let second = space_from(line, first + 1);
+    let first = first_from(line, 0, b' ', false);
+    let second = first_from(line, first + 1, b' ', false);
+    let third = first_from(line, second + 1, b' ', false);
     let p = unhex(line, first, &mut pattern);
     let t = number(line, first, second, TABLE);
-    let w = number(line, second, line.len(), WITNESS);
+    let w = number(line, second, third, WITNESS);
+    let a = number(line, third, line.len(), AREA);
     fill(table, TABLE_BYTE);
     fill(witness, WITNESS_BYTE);
-    let x = lend(&pattern, p, table, t, witness, w);
+    fill(area, AREA_BYTE);
+    let x = lend(&pattern, p, table, t, witness, w, area, a);
     let m = answers::verdict(out, n, x, witness);
-    report(out, m, table, witness, t, w)
+    report(out, m, table, witness, area, t, w, a)
 }
 
 // Answers the calls of the input, until it is over or a read or a write fails.
@@ -161,13 +184,14 @@ fn run(chunk: &mut [u8; SIZE], line: &mut [u8; KEPT], out: &mut [u8; SIZE]) -> S
 {
     let mut table = [0u8; TABLE];
     let mut witness = [0u8; WITNESS];
+    let mut area = [0u8; AREA];
     let mut s = lines::start();
     let mut turns = u64::MAX;
     while turns > 0 && lines::goes_on(s) {
         s = lines::next_line(chunk, line, s);
         if s.whole {
             let text = lines::first_of(line, s.n);
-            s.used = call(out, 0, text, &mut table, &mut witness);
+            s.used = call(out, 0, text, &mut table, &mut witness, &mut area);
         }
         s = lines::exchange(chunk, out, s);
         turns -= 1;

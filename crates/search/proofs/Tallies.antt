@@ -22,7 +22,7 @@ use Rattle.theory.proofs.Lines.{snoc-size, snoc-old, snoc-last}
 use Rattle.theory.proofs.Records.{unique}
 use Rattle.verdict.specs.Table.{sameList, same, numberOf}
 use Rattle.verdict.proofs.Tables.{sameList-eq, sameList-refl, same-eq, same-no, number-is}
-use Rattle.verdict.proofs.Checked.{needs-some}
+use Rattle.verdict.proofs.Tabled.{needs-some}
 use Rattle.groups.specs.Numbers.{shares, isLowest, lowestBelow, lowestBytes}
 use Rattle.groups.proofs.Numbers.{next-lowest, lowest-split}
 use Rattle.search.specs.declared.Looking.{Looking}

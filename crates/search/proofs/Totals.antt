@@ -10,7 +10,7 @@ use lib.ListN.{length, length-append, length-map}
 use Rattle.theory.specs.Pattern.{Re, Numbered}
 use Rattle.theory.specs.Standing.{standing}
 use Rattle.theory.specs.Records.{Alike, all-records}
-use Rattle.verdict.proofs.Checked.{needs-one, needs-some}
+use Rattle.verdict.proofs.Tabled.{needs-one, needs-some}
 use Rattle.groups.specs.Numbers.{shares, lowestBytes, groupsOf}
 use Rattle.search.specs.declared.Looking.{Looking}
 use Rattle.search.specs.Looking.{carriedBy, carried, lookedFor, saturated, lookingFor, Takes, takes}

@@ -13,7 +13,7 @@ use Rattle.theory.specs.Standing.{Standing, standing}
 use Rattle.verdict.specs.Bits.{bits, pack}
 use Rattle.verdict.specs.Record.{narrow, formOf, recordBits, recordBytes}
 use Rattle.verdict.specs.Table.{same, numberOf, recordOf, slots, onto}
-use Rattle.verdict.specs.Checked.{Result, alike, unlike, refused, Whole, whole, due}
+use Rattle.verdict.specs.Tabled.{Result, alike, unlike, refused, Whole, whole, due}
 
 -- A standing with (a) 2 1, (b), (c) 1 2, without (d).
 abbrev sample : Standing

@@ -1,143 +1,70 @@
--- What is owed is what `Found` says.
+-- For every pattern, table, witness buffer and area one result and content is right: the test passes or fails, and where it fails the records decide.
 -- Assumes nothing.
-use mathlib.Core.Path.{_≡_, refl, sym, ap, _∙_, subst}
-use mathlib.Core.Logic.{_↔_}
-use Prim.Native.Nat.{ℕ, _+_, _≤_, _<_}
-use mathlib.Core.List.{List, [], _∷_, _++_}
-use mathlib.Core.Option.{Option, none, some}
+use mathlib.Core.Path.{_≡_, refl, sym, subst}
+use mathlib.Core.Logic.{_⊎_, inl, inr, _↔_}
+use Prim.Native.Nat.{ℕ}
+use mathlib.Core.List.{List}
 use native.Mathlib.Omega.{arith}
 use native.Mathlib.Decide.{decLt}
-use lib.ListN.{length, take}
-use lib.Seq.{getD-take, length-take-le}
-use lib.Dec.{T, ltb, ltb→lt, lt→ltb}
-use Rattle.theory.specs.Pattern.{Re, Numbered}
-use Rattle.theory.specs.Standing.{standing, isWitness}
-use Rattle.theory.specs.Records.{at, Records, Needs, all-records, up-to-witness}
-use Rattle.theory.specs.Code.Search.{Full, SearchEnd}
-use Rattle.theory.proofs.Tests.{T-true, not-true, either}
+use lib.ListN.{length}
+use Rattle.theory.specs.Pattern.{Re, count}
+use Rattle.theory.specs.Standing.{Standing}
+use Rattle.theory.proofs.Tests.{either}
+use Rattle.extends.specs.Extends.{NoneExtends}
+use Rattle.extends.proofs.Test.{none-or-some}
+use Rattle.grammar.specs.Grammar.{Alternation}
+use Rattle.grammar.specs.Limits.{Reads}
 use Rattle.grammar.specs.WriteOut.{writeOut}
-use Rattle.grammar.proofs.Right.{either-way}
+use Rattle.grammar.proofs.Right.{either-way, unambiguous, not-both}
 use Rattle.grammar.proofs.Size.{writeOut-numbered}
-use Rattle.verdict.specs.Record.{Form, formOf}
-use Rattle.verdict.specs.Table.{body, recordsOf, records, slots, onto}
-use Rattle.verdict.specs.Checked.{Result, alike, unlike, refused, Whole, whole, Checked, by-reader, by-records}
-use Rattle.verdict.specs.Code.Found.{Found, not-read, same-cuts, first-witness, no-slot, no-room}
-use Rattle.theory.proofs.Lines.{snoc-size, snoc-old}
-use Rattle.verdict.proofs.OneEnd.{Shown, alike-of, unlike-of, full-of, show, same-outcome}
-use Rattle.verdict.proofs.Tables.{number-at, origin-at, recordsOf-same}
-use Rattle.verdict.proofs.One.{result, table, witness, found-one}
-use Rattle.verdict.proofs.Finite.{settled}
+use Rattle.verdict.specs.Record.{Form}
+use Rattle.verdict.specs.Tabled.{Whole, TabledBy, by-reader}
+use Rattle.verdict.specs.Area.{areaBytes}
+use Rattle.verdict.specs.Checked.{CheckedBy, Checked, by-fault, by-area, by-test, by-table}
+use Rattle.verdict.proofs.Tabled.{tabled-some, tabled-one}
 
-module _ (r : Re) where
-  -- The first n records.
-  module _ {L : List (List ℕ)} (a : Records (standing r) L) (n : ℕ) (h : n ≤ length L) where
-    size : length (take n L) ≡ n
-    size = length-take-le n L h
-
-    old : (k : ℕ) → k < n → at (take n L) k ≡ at L k
-    old k l = getD-take n L k [] l
-
-    pub first-records : Records (standing r) (take n L)
-    first-records =
-        record {
-          bytes = λ k l. let i : k < n = omega (arith, size) in rw (old k i) (a .bytes k (omega arith));
-          before = λ k l v b o.
-              let i : k < n = omega (arith, size) in
-              let (j, m, e) = a .before k (omega arith) v b (rw (old k i) at o) in
-              (j, m, ap (standing r) (old j (omega arith)) ∙ e);
-          fresh = λ j k o l e.
-              let i : k < n = omega (arith, size) in
-              a .fresh j k o (omega arith) (ap (standing r) (sym (old j (omega arith))) ∙ e ∙ ap (standing r) (old k i));
-        }
-
-    pub first-table : (f : Form) → recordsOf f (standing r) L (take n L) ≡ records f (standing r) (take n L)
-    first-table f =
-        recordsOf-same f r L (take n L) (take n L) λ k l.
-        let (j, i, e) = origin-at r first-records k l in
-        let m : j < n = omega (arith, size) in
-        number-at r a (standing r (body (at (take n L) k))) j (omega arith) (ap (standing r) (sym (old j m)) ∙ e)
-        ∙ sym (number-at r first-records (standing r (body (at (take n L) k))) j (omega arith) e)
-
-    -- There are more than n records if there are more lines.
-    pub first-full : n < length L → ((k : ℕ) → k < n → T (isWitness (standing r (at L k))) → ⊥) → Full r (take n L)
-    first-full l clean =
-        record {
-          records = first-records;
-          none = λ k i t. let m : k < n = omega (arith, size) in clean k m (subst (λ x. T (isWitness (standing r x))) (old k m) t);
-          more = (at L n, a .bytes n l, λ k i e. let m : k < n = omega (arith, size) in a .fresh k n m l (ap (standing r) (sym (old k m)) ∙ e));
-        }
-
-abbrev Right : List ℕ → List ℕ → List ℕ → Whole → Type 0
-Right p t v s = Found p t v (result s) (table s) (witness s)
-
-pub checked-found : {p t v : List ℕ} {s : Whole} → Checked p t v s → Found p t v (result s) (table s) (witness s)
-checked-found (by-reader h) = not-read h refl refl refl
-checked-found {p} {t} {v} (by-records {a = a} h (all-records {L = L} c)) =
-    elim (decLt (slots (formOf (writeOut a)) (length t)) (length L)) [
-      | yes l ↦ rw (T-true (ltb (slots (formOf (writeOut a)) (length t)) (length L)) (lt→ltb (slots (formOf (writeOut a)) (length t)) (length L) l))
-          (no-slot h (first-full (writeOut a) (c .records) (slots (formOf (writeOut a)) (length t)) (omega arith) l (λ k i. c .none k (omega arith)))
-          (length-take-le (slots (formOf (writeOut a)) (length t)) L (omega arith)) refl (ap (onto t) (first-table (writeOut a) (c .records) (slots (formOf (writeOut a)) (length t)) (omega arith) (formOf (writeOut a)))) refl)
-      | no l ↦ rw (not-true (ltb (slots (formOf (writeOut a)) (length t)) (length L)) (λ x. l (ltb→lt (slots (formOf (writeOut a)) (length t)) (length L) x)))
-          (same-cuts h c (omega arith) refl refl refl)
-    ]
-checked-found {p} {t} {v} (by-records {a = a} h (up-to-witness L w c)) =
-    elim (decLt (slots (formOf (writeOut a)) (length t)) (length (L ++ (w ∷ [])))) [
-      | yes l ↦ rw (T-true (ltb (slots (formOf (writeOut a)) (length t)) (length (L ++ (w ∷ [])))) (lt→ltb (slots (formOf (writeOut a)) (length t)) (length (L ++ (w ∷ []))) l))
-          (no-slot h (first-full (writeOut a) (c .records) (slots (formOf (writeOut a)) (length t)) (omega arith) l (λ k i x. c .none k (omega (arith, snoc-size L w)) (subst (λ y. T (isWitness (standing (writeOut a) y))) (snoc-old L w k (omega (arith, snoc-size L w))) x)))
-          (length-take-le (slots (formOf (writeOut a)) (length t)) (L ++ (w ∷ [])) (omega arith)) refl (ap (onto t) (first-table (writeOut a) (c .records) (slots (formOf (writeOut a)) (length t)) (omega arith) (formOf (writeOut a)))) refl)
-      | no l ↦ rw (not-true (ltb (slots (formOf (writeOut a)) (length t)) (length (L ++ (w ∷ [])))) (λ x. l (ltb→lt (slots (formOf (writeOut a)) (length t)) (length (L ++ (w ∷ []))) x)))
-          (elim (decLt (length v) (length w)) [
-            | yes g ↦ rw (T-true (ltb (length v) (length w)) (lt→ltb (length v) (length w) g)) (no-room h c (omega (arith, snoc-size L w)) g refl refl refl)
-            | no g ↦ rw (not-true (ltb (length v) (length w)) (λ x. g (ltb→lt (length v) (length w) x)))
-                (first-witness h c (omega (arith, snoc-size L w)) (omega arith) (ap (λ n. unlike n (length w)) (snoc-size L w)) refl refl)
-          ])
-    ]
+-- THE TEST PASSES OR FAILS.
+pub passes-or-fails : (a : Alternation) → NoneExtends (writeOut a) ⊎ (NoneExtends (writeOut a) → ⊥)
+passes-or-fails a = either inl (λ (u, b, v, x). inr λ none. none u b v x) (none-or-some (writeOut a) (count (writeOut a)) (writeOut-numbered a) (omega arith))
 
 -- Something is owed for every input,
-pub checked-some : (p t v : List ℕ) → (s : Whole) × Checked p t v s
-checked-some p t v =
-    either
-    (λ h. let (a, k) = h in either (λ c. (_, by-records k (all-records (c .1)))) (λ c. (_, by-records k (up-to-witness (c .0) (c .1) (c .2)))) (settled (writeOut a) (writeOut-numbered a)))
-    (λ h. let (n, q, k) = h in (whole (refused n q) t v, by-reader k))
-    (either-way p)
-
--- and one thing: what is right.
-pub checked-exactly : (p t v : List ℕ) (x : Result) (t′ v′ : List ℕ) → Checked p t v (whole x t′ v′) ↔ Found p t v x t′ v′
-checked-exactly p t v x t′ v′ = (λ h. checked-found h, λ c. let (s, h) = checked-some p t v in subst (Checked p t v) (same s h c) h)
+pub checked-some : (p t v s : List ℕ) → (z : Whole) × (s′ : List ℕ) × Checked p t v s z s′
+checked-some p t v s = either accepted (λ (n, q, f). (_, _, by-fault f)) (either-way p)
   where
-    same : (s : Whole) → Checked p t v s → Found p t v x t′ v′ → s ≡ whole x t′ v′
-    same (whole y t″ v″) h c = let (a, b, d) = found-one (checked-found h) c in rw (a, b, d)
+    accepted : ((a : Alternation) × Reads p a) → (z : Whole) × (s′ : List ℕ) × Checked p t v s z s′
+    accepted (a, i) =
+        elim (decLt (length s) areaBytes) [
+          | yes l ↦ (_, _, by-area i l)
+          | no l ↦ either (λ none. (_, _, by-test i (omega arith) none)) (λ fails. let (z, c) = tabled-some p t v in (z, _, by-table i (omega arith) fails c)) (passes-or-fails a)
+        ]
 
-pub checked-one : {p t v : List ℕ} {s u : Whole} → Checked p t v s → Checked p t v u → s ≡ u
-checked-one {s = whole x t′ v′} {u = whole y t″ v″} h k = let (a, b, d) = found-one (checked-found h) (checked-found k) in rw (a, b, d)
+-- and one thing.
+pub checked-one : {p t v s : List ℕ} {z y : Whole} {s′ s″ : List ℕ} → Checked p t v s z s′ → Checked p t v s y s″ → (z ≡ y) × (s′ ≡ s″)
+checked-one (by-fault f) (by-fault g) = (tabled-one (by-reader f) (by-reader g), refl)
+checked-one {p} (by-fault {n = n} {q = q} f) (by-area {a = a} i l) = absurd (not-both p a n q i f)
+checked-one {p} (by-fault {n = n} {q = q} f) (by-test {a = a} i l h) = absurd (not-both p a n q i f)
+checked-one {p} (by-fault {n = n} {q = q} f) (by-table {a = a} i l h c) = absurd (not-both p a n q i f)
+checked-one {p} (by-area {a = a} i l) (by-fault {n = n} {q = q} f) = absurd (not-both p a n q i f)
+checked-one (by-area i l) (by-area j m) = (refl, refl)
+checked-one (by-area i l) (by-test j m h) = absurd (omega arith)
+checked-one (by-area i l) (by-table j m h c) = absurd (omega arith)
+checked-one {p} (by-test {a = a} i l h) (by-fault {n = n} {q = q} f) = absurd (not-both p a n q i f)
+checked-one (by-test i l h) (by-area j m) = absurd (omega arith)
+checked-one (by-test i l h) (by-test j m k) = (refl, refl)
+checked-one {p} (by-test {a = a} i l h) (by-table {a = b} j m k c) = absurd (k (subst (λ x. NoneExtends (writeOut x)) (unambiguous p a b i j) h))
+checked-one {p} (by-table {a = a} i l h c) (by-fault {n = n} {q = q} f) = absurd (not-both p a n q i f)
+checked-one (by-table i l h c) (by-area j m) = absurd (omega arith)
+checked-one {p} (by-table {a = a} i l h c) (by-test {a = b} j m k) = absurd (h (subst (λ x. NoneExtends (writeOut x)) (unambiguous p b a j i) k))
+checked-one (by-table i l h c) (by-table j m k d) = (tabled-one c d, refl)
 
--- The records that a pattern needs are one list, with one witness or none.
-linesOf : Shown → List (List ℕ)
-linesOf (alike-of L) = L
-linesOf (unlike-of L w) = L ++ (w ∷ [])
-linesOf (full-of L) = L
+-- Of a right answer: an answer is right exactly if it is that one.
+pub checked-is : {p t v s : List ℕ} {z : Whole} {s′ : List ℕ} → Checked p t v s z s′ → (y : Whole) (s″ : List ℕ) → Checked p t v s y s″ ↔ ((y ≡ z) × (s″ ≡ s′))
+checked-is {p} {t} {v} {s} {z} c y s″ = (λ d. checked-one d c, λ (e, f). subst (λ w. Checked p t v s w s″) (sym e) (subst (Checked p t v s z) (sym f) c))
 
-witnessOf : Shown → Option (List ℕ)
-witnessOf (alike-of L) = none
-witnessOf (unlike-of L w) = some w
-witnessOf (full-of L) = none
-
-outcome : (r : Re) {L : List (List ℕ)} {w : Option (List ℕ)} (n : ℕ) → length L ≤ n → Needs (standing r) L w → SearchEnd r n
-outcome r n h (all-records {L = L} a) = SearchEnd.alike L h a
-outcome r n h (up-to-witness L w a) = SearchEnd.unlike L w (omega (arith, snoc-size L w)) a
-
-outcome-shows : (r : Re) {L : List (List ℕ)} {w : Option (List ℕ)} (n : ℕ) (h : length L ≤ n) (x : Needs (standing r) L w) → (linesOf (show (outcome r n h x)) ≡ L) × (witnessOf (show (outcome r n h x)) ≡ w)
-unfolding linesOf witnessOf outcome
-outcome-shows r n h (all-records a) = (refl, refl)
-outcome-shows r n h (up-to-witness L w a) = (refl, refl)
-
-pub needs-one : (r : Re) {L M : List (List ℕ)} {w u : Option (List ℕ)} → Numbered 0 r → Needs (standing r) L w → Needs (standing r) M u → (L ≡ M) × (w ≡ u)
-needs-one r {L} {M} d x y =
-    let n = length L + length M in
-    let h : length L ≤ n = omega arith in
-    let g : length M ≤ n = omega arith in
-    let e = same-outcome r d (outcome r n h x) (outcome r n g y) in
-    (sym (outcome-shows r n h x .0) ∙ ap linesOf e ∙ outcome-shows r n g y .0, sym (outcome-shows r n h x .1) ∙ ap witnessOf e ∙ outcome-shows r n g y .1)
-
-pub needs-some : (r : Re) → Numbered 0 r → (L : List (List ℕ)) × (w : Option (List ℕ)) × Needs (standing r) L w
-needs-some r d = either (λ c. (c .0, none, all-records (c .1))) (λ c. (c .0 ++ (c .1 ∷ []), some (c .1), up-to-witness (c .0) (c .1) (c .2))) (settled r d)
+-- Where the records give the same, so does the check.
+pub checked-by : {p t v s : List ℕ} {form form′ : Re → Form} {stand stand′ : Re → List ℕ → Standing} → ((y : Whole) → TabledBy form stand p t v y → TabledBy form′ stand′ p t v y)
+    → {z : Whole} {s′ : List ℕ} → CheckedBy form stand p t v s z s′ → CheckedBy form′ stand′ p t v s z s′
+checked-by same (by-fault f) = by-fault f
+checked-by same (by-area i l) = by-area i l
+checked-by same (by-test i l h) = by-test i l h
+checked-by same (by-table {z = z} i l h c) = by-table i l h (same z c)

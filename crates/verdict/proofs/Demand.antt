@@ -1,10 +1,11 @@
 -- What a right answer of the checker says of the pattern.
 -- Assumes nothing.
-use mathlib.Core.Path.{_≡_, sym, subst}
-use mathlib.Core.Logic.{_⊎_, inl, inr, _↔_}
-use Prim.Native.Nat.{ℕ, _≤_}
-use mathlib.Core.List.{List}
-use native.Mathlib.Decide.{ℕ-discrete}
+use mathlib.Core.Path.{_≡_, refl, sym, ap, subst}
+use mathlib.Core.Logic.{_⊎_, inl, inr, _↔_, Iff·trans}
+use Prim.Native.Nat.{ℕ, _≤_, _<_}
+use mathlib.Core.List.{List, []}
+use native.Mathlib.Omega.{arith}
+use native.Mathlib.Decide.{decLt, ℕ-discrete}
 use lib.ListN.{length, take, drop}
 use Rattle.theory.specs.Pattern.{Re}
 use Rattle.theory.specs.Spans.{Span-discrete, greedy, posix}
@@ -13,21 +14,26 @@ use Rattle.theory.specs.Base.{Plain}
 use Rattle.theory.specs.Preference.{Robust}
 use Rattle.theory.proofs.Denotation.{robust}
 use Rattle.theory.proofs.Tests.{either}
+use Rattle.extends.specs.Extends.{NoneExtends}
+use Rattle.extends.proofs.Alike.{none-cut}
 use Rattle.grammar.specs.Grammar.{Alternation}
 use Rattle.grammar.specs.Limits.{Reads}
 use Rattle.grammar.specs.Refusals.{Fault}
 use Rattle.grammar.specs.WriteOut.{writeOut}
+use Rattle.grammar.proofs.Right.{unambiguous, not-both}
+use Rattle.grammar.proofs.Size.{writeOut-numbered}
 use Rattle.verdict.specs.Record.{formOf}
 use Rattle.verdict.specs.Table.{slots}
-use Rattle.verdict.specs.Checked.{Result, alike, unlike, refused, Whole, whole, Checked}
+use Rattle.verdict.specs.Tabled.{Result, alike, unlike, refused, Whole, whole, Tabled}
+use Rattle.verdict.specs.Area.{areaBytes, cleared}
+use Rattle.verdict.specs.Checked.{Checked, by-fault, by-area, by-test, by-table}
 use Rattle.verdict.specs.Demand.{NoneCut, FirstCut, Number, Outnumber, Longer}
-use Rattle.verdict.proofs.Checked.{checked-found, checked-exactly, checked-one}
-use Rattle.verdict.proofs.Promise.{Refused, alike-promise, unlike-promise, ten, eleven, eleven-never, withheld, reader-refusal, kept}
-use Rattle.verdict.proofs.StayBytes.{stay-bytes}
-
--- Of a right answer: an answer is right exactly if it is that one.
-pub checked-is : {p t v : List ℕ} {z : Whole} → Checked p t v z → (y : Whole) → Checked p t v y ↔ (y ≡ z)
-checked-is {p} {t} {v} c y = (λ d. checked-one d c, λ e. subst (Checked p t v) (sym e) c)
+use Rattle.verdict.proofs.Tabled.{tabled-some}
+use Rattle.verdict.proofs.Area.{cleared-length, cleared-bytes}
+use Rattle.verdict.proofs.Checked.{passes-or-fails, checked-one, checked-is}
+use Rattle.verdict.proofs.One.{result, table, witness}
+use Rattle.verdict.proofs.Promise.{fault-number}
+use Rattle.verdict.proofs.ByTable.{RefusedInTable, tabled-numbers, tabled-alike, tabled-unlike, tabled-ten, tabled-eleven, tabled-room, tabled-withheld, tabled-lengths, tabled-bytes}
 
 -- NO LINE IS CUT DIFFERENTLY exactly if the pattern, a plain one, is robust by source 000's Definition 4.
 pub none-robust : (r : Re) → Plain r → NoneCut r ↔ Robust 256 r
@@ -37,52 +43,131 @@ none-robust r d = (
 )
 
 -- It is refused with that number at place 0.
-abbrev pub RefusedBy : List ℕ → List ℕ → List ℕ → ℕ → Type 0
-RefusedBy p t v n = (t′ v′ : List ℕ) × Checked p t v (whole (refused n 0) t′ v′)
+abbrev pub RefusedBy : List ℕ → List ℕ → List ℕ → List ℕ → ℕ → Type 0
+RefusedBy p t v s n = (t′ v′ s′ : List ℕ) × Checked p t v s (whole (refused n 0) t′ v′) s′
 
-module _ {p t v : List ℕ} where
-  to : {n : ℕ} → RefusedBy p t v n → Refused p t v n
-  to (t′, v′, c) = (t′, v′, checked-found c)
+-- The ways to the result z: the area is too short, the test passes, or it fails.
+abbrev Ways : List ℕ → List ℕ → List ℕ → List ℕ → Alternation → Whole → Type 0
+Ways p t v s a z =
+    ((z ≡ whole (refused 13 0) t v) × (length s < areaBytes))
+    ⊎ (((z ≡ whole (alike 0) t v) × NoneExtends (writeOut a)) ⊎ (Tabled p t v z × (NoneExtends (writeOut a) → ⊥)))
 
-  back : {n : ℕ} → Refused p t v n → RefusedBy p t v n
-  back {n} (t′, v′, c) = (t′, v′, checked-exactly p t v (refused n 0) t′ v′ .1 c)
-
+module _ {p t v s : List ℕ} where
   module _ (a : Alternation) (i : Reads p a) where
-    -- ALIKE: no sequence of bytes, of any length, is cut differently; the count is the number of distinct standings.
-    pub alike-means : {n : ℕ} {t′ v′ : List ℕ} → Checked p t v (whole (alike n) t′ v′) → NoneCut (writeOut a) × Number (writeOut a) n
-    alike-means c = alike-promise (checked-found c) a i
+    -- AN AREA THAT IS TOO SHORT: 13, and every buffer is unchanged.
+    pub short-area : {z : Whole} {s′ : List ℕ} → length s < areaBytes → Checked p t v s z s′ ↔ ((z ≡ whole (refused 13 0) t v) × (s′ ≡ s))
+    short-area {z} {s′} l = checked-is (by-area i l) z s′
+
+    -- THE TEST PASSES: alike with count 0, the table and the witness buffer keep their bytes, whatever their lengths.
+    pub test-passes : {z : Whole} {s′ : List ℕ} → areaBytes ≤ length s → NoneExtends (writeOut a) → Checked p t v s z s′ ↔ ((z ≡ whole (alike 0) t v) × (s′ ≡ cleared s))
+    test-passes {z} {s′} l none = checked-is (by-test i l none) z s′
+
+    -- IT FAILS: the result is that of the records, as it was before there was the test.
+    pub test-fails : {z : Whole} {s′ : List ℕ} → areaBytes ≤ length s → (NoneExtends (writeOut a) → ⊥) → Checked p t v s z s′ ↔ (Tabled p t v z × (s′ ≡ cleared s))
+    test-fails {z} {s′} l fails = (
+      λ c. let (y, d) = tabled-some p t v in
+          let (e, f) = checked-one c (by-table i l fails d) in
+          (subst (Tabled p t v) (sym e) d, f),
+      λ (d, f). subst (Checked p t v s z) (sym f) (by-table i l fails d),
+    )
+
+    three-ways : {z : Whole} {s′ : List ℕ} → Checked p t v s z s′ → Ways p t v s a z
+    three-ways c =
+        elim (decLt (length s) areaBytes) [
+          | yes l ↦ inl (short-area l .0 c .0, l)
+          | no l ↦ inr (either (λ none. inl (test-passes (omega arith) none .0 c .0, none)) (λ fails. inr (test-fails (omega arith) fails .0 c .0, fails)) (passes-or-fails a))
+        ]
+
+    -- ALIKE: no sequence of bytes, of any length, is cut differently. The count is 0 exactly if the test passes, and else the number of distinct standings.
+    pub alike-means : {n : ℕ} {t′ v′ s′ : List ℕ} → Checked p t v s (whole (alike n) t′ v′) s′
+        → NoneCut (writeOut a) × (0 < n → Number (writeOut a) n) × ((n ≡ 0) ↔ NoneExtends (writeOut a))
+    alike-means {n} {t′} {v′} c = go (three-ways c)
+      where
+        go : Ways p t v s a (whole (alike n) t′ v′) → NoneCut (writeOut a) × (0 < n → Number (writeOut a) n) × ((n ≡ 0) ↔ NoneExtends (writeOut a))
+        go (inl (e, l)) = absurd (let z : _≡_ {A = ℕ} 0 1 = cc in omega arith)
+        go (inr (inl (e, none))) = let z : n ≡ 0 = cc in (none-cut (writeOut a) (writeOut-numbered a) none, λ l. absurd (omega arith), (λ _. none, λ _. z))
+        go (inr (inr (d, fails))) =
+            let (none, number) = tabled-alike a i d in
+            let (k, l, e) = number .every [] tt (λ w b o. none w b) in
+            (none, λ _. number, (λ z. absurd (omega arith), λ h. absurd (fails h)))
 
     -- UNLIKE: the witness handed over, the first k bytes of the buffer, is cut differently, and every other line that is cut differently is longer, or as long and
     -- later in byte order; the count is the number of distinct standings of the lines that none of these comes before; the rest of the buffer is kept.
-    pub unlike-means : {n k : ℕ} {t′ v′ : List ℕ} → Checked p t v (whole (unlike n k) t′ v′)
+    pub unlike-means : {n k : ℕ} {t′ v′ s′ : List ℕ} → Checked p t v s (whole (unlike n k) t′ v′) s′
         → FirstCut (writeOut a) (take k v′) × Number (writeOut a) n × (length (take k v′) ≡ k) × (drop k v′ ≡ drop k v)
-    unlike-means c = unlike-promise (checked-found c) a i
+    unlike-means {n} {k} {t′} {v′} c = go (three-ways c)
+      where
+        go : Ways p t v s a (whole (unlike n k) t′ v′) → FirstCut (writeOut a) (take k v′) × Number (writeOut a) n × (length (take k v′) ≡ k) × (drop k v′ ≡ drop k v)
+        go (inl (e, l)) = absurd (let z : _≡_ {A = ℕ} 0 1 = cc in omega arith)
+        go (inr (inl (e, none))) = absurd (let z : _≡_ {A = ℕ} 0 1 = cc in omega arith)
+        go (inr (inr (d, fails))) = tabled-unlike a i d
 
-    -- WITHHELD: exactly if the distinct standings of the lines that no line cut differently comes before outnumber the slots (10), or else the first line cut
-    -- differently is longer than the buffer (11).
-    pub ten-exactly : RefusedBy p t v 10 ↔ Outnumber (writeOut a) (slots (formOf (writeOut a)) (length t))
-    ten-exactly = (λ c. ten a i .0 (to c), λ o. back (ten a i .1 o))
+    -- REFUSED WITH 13 exactly if the area is below 1,024 bytes.
+    pub thirteen-exactly : RefusedBy p t v s 13 ↔ (length s < areaBytes)
+    thirteen-exactly = (λ (t′, v′, s′, c). go (three-ways c), λ l. (t, v, s, by-area i l))
+      where
+        go : {t′ v′ : List ℕ} → Ways p t v s a (whole (refused 13 0) t′ v′) → length s < areaBytes
+        go (inl (e, l)) = l
+        go (inr (inl (e, none))) = absurd (let z : _≡_ {A = ℕ} 0 1 = cc in omega arith)
+        go (inr (inr (d, fails))) = absurd (either (λ e. omega arith) (λ e. omega arith) (tabled-numbers i d .0))
 
-    pub eleven-exactly : RefusedBy p t v 11 ↔ ((Outnumber (writeOut a) (slots (formOf (writeOut a)) (length t)) → ⊥) × Longer (writeOut a) (length v))
-    eleven-exactly = (λ c. eleven a i .0 (to c), λ o. back (eleven a i .1 o))
+    module _ (room : areaBytes ≤ length s) where
+      -- A PATTERN THAT PASSES is never refused: neither 10 nor 11 can meet it.
+      pub passes-decides : NoneExtends (writeOut a) → {n : ℕ} → RefusedBy p t v s n → ⊥
+      passes-decides none (t′, v′, s′, c) = let e = ap result (test-passes room none .0 c .0) in let z : _≡_ {A = ℕ} 0 1 = cc in omega arith
 
-    -- A BUFFER WITH A BYTE FOR EACH SLOT is never too short.
-    pub never-eleven : slots (formOf (writeOut a)) (length t) ≤ length v → RefusedBy p t v 11 → ⊥
-    never-eleven room c = eleven-never a i room (to c)
+      -- Of patterns that fail the test.
+      module _ (fails : NoneExtends (writeOut a) → ⊥) where
+        in-table : {n : ℕ} → RefusedBy p t v s n ↔ RefusedInTable p t v n
+        in-table = (λ (t′, v′, s′, c). (t′, v′, test-fails room fails .0 c .0), λ (t′, v′, d). (t′, v′, cleared s, by-table i room fails d))
 
-    pub withheld-exactly : (RefusedBy p t v 10 ⊎ RefusedBy p t v 11) ↔ (Outnumber (writeOut a) (slots (formOf (writeOut a)) (length t)) ⊎ Longer (writeOut a) (length v))
-    withheld-exactly = (
-      λ c. withheld a i .0 (either (λ x. inl (to x)) (λ x. inr (to x)) c),
-      λ o. either (λ x. inl (back x)) (λ x. inr (back x)) (withheld a i .1 o),
-    )
+        -- WITHHELD: exactly if the distinct standings of the lines that no line cut differently comes before outnumber the slots (10), or else the first line cut
+        -- differently is longer than the buffer (11).
+        pub ten-exactly : RefusedBy p t v s 10 ↔ Outnumber (writeOut a) (slots (formOf (writeOut a)) (length t))
+        ten-exactly = Iff·trans in-table (tabled-ten a i)
 
-  -- REFUSED with another number: the pattern's fault, and the buffers keep every byte.
-  pub refused-means : {n q : ℕ} {t′ v′ : List ℕ} → Checked p t v (whole (refused n q) t′ v′) → n ≤ 8 → Fault p n q × (t′ ≡ t) × (v′ ≡ v)
-  refused-means c h = reader-refusal (checked-found c) h
+        pub eleven-exactly : RefusedBy p t v s 11 ↔ ((Outnumber (writeOut a) (slots (formOf (writeOut a)) (length t)) → ⊥) × Longer (writeOut a) (length v))
+        eleven-exactly = Iff·trans in-table (tabled-eleven a i)
 
-  -- The buffers keep their lengths, and stay bytes.
-  pub lengths-kept : {x : Result} {t′ v′ : List ℕ} → Checked p t v (whole x t′ v′) → (length t′ ≡ length t) × (length v′ ≡ length v)
-  lengths-kept c = kept (checked-found c)
+        pub withheld-exactly : (RefusedBy p t v s 10 ⊎ RefusedBy p t v s 11) ↔ (Outnumber (writeOut a) (slots (formOf (writeOut a)) (length t)) ⊎ Longer (writeOut a) (length v))
+        withheld-exactly = (
+          λ c. tabled-withheld a i .0 (either (λ x. inl (in-table .0 x)) (λ x. inr (in-table .0 x)) c),
+          λ o. either (λ x. inl (in-table .1 x)) (λ x. inr (in-table .1 x)) (tabled-withheld a i .1 o),
+        )
 
-  pub bytes-kept : {x : Result} {t′ v′ : List ℕ} → Checked p t v (whole x t′ v′) → Below 256 t → Below 256 v → Below 256 t′ × Below 256 v′
-  bytes-kept c = stay-bytes (checked-found c)
+      -- A BUFFER WITH A BYTE FOR EACH SLOT is never too short.
+      pub never-eleven : slots (formOf (writeOut a)) (length t) ≤ length v → RefusedBy p t v s 11 → ⊥
+      never-eleven enough c = either (λ none. passes-decides none c) (λ fails. tabled-room a i enough (in-table fails .0 c)) (passes-or-fails a)
+
+  -- REFUSED with 1 to 8: the pattern's fault, and every buffer keeps every byte.
+  pub refused-means : {n q : ℕ} {t′ v′ s′ : List ℕ} → Checked p t v s (whole (refused n q) t′ v′) s′ → n ≤ 8 → Fault p n q × (t′ ≡ t) × (v′ ≡ v) × (s′ ≡ s)
+  refused-means {n} {q} {t′} {v′} c h = go c refl
+    where
+      go : {z : Whole} {u : List ℕ} → Checked p t v s z u → z ≡ whole (refused n q) t′ v′ → Fault p n q × (t′ ≡ t) × (v′ ≡ v) × (u ≡ s)
+      go (by-fault {n = m} {q = k} f) e = let x : m ≡ n = cc in let y : k ≡ q = cc in (subst (Fault p n) y (subst (λ j. Fault p j k) x f), (cc), (cc), refl)
+      go (by-area i l) e = absurd (let x : n ≡ 13 = cc in omega arith)
+      go (by-test i l none) e = absurd (let z : _≡_ {A = ℕ} 0 1 = cc in omega arith)
+      go (by-table i l fails d) e = absurd (let x = tabled-numbers i (subst (Tabled p t v) e d) .0 in either (λ y. omega arith) (λ y. omega arith) x)
+
+  -- The buffers and the area keep their lengths.
+  pub lengths-kept : {x : Result} {t′ v′ s′ : List ℕ} → Checked p t v s (whole x t′ v′) s′ → (length t′ ≡ length t) × (length v′ ≡ length v) × (length s′ ≡ length s)
+  lengths-kept {x} {t′} {v′} c = go c refl
+    where
+      go : {z : Whole} {u : List ℕ} → Checked p t v s z u → z ≡ whole x t′ v′ → (length t′ ≡ length t) × (length v′ ≡ length v) × (length u ≡ length s)
+      go (by-fault f) e = (ap length (sym (ap table e)), ap length (sym (ap witness e)), refl)
+      go (by-area i l) e = (ap length (sym (ap table e)), ap length (sym (ap witness e)), refl)
+      go (by-test i l none) e = (ap length (sym (ap table e)), ap length (sym (ap witness e)), cleared-length s l)
+      go (by-table i l fails d) e = let (f, g) = tabled-lengths (subst (Tabled p t v) e d) in (f, g, cleared-length s l)
+
+  -- .. and stay bytes.
+  pub bytes-kept : {x : Result} {t′ v′ s′ : List ℕ} → Checked p t v s (whole x t′ v′) s′ → Below 256 t → Below 256 v → Below 256 s → Below 256 t′ × Below 256 v′ × Below 256 s′
+  bytes-kept {x} {t′} {v′} c h k l = go c refl
+    where
+      both : {z : Whole} → z ≡ whole x t′ v′ → Below 256 (table z) → Below 256 (witness z) → Below 256 t′ × Below 256 v′
+      both e f g = (subst (λ z. Below 256 (table z)) e f, subst (λ z. Below 256 (witness z)) e g)
+
+      go : {z : Whole} {u : List ℕ} → Checked p t v s z u → z ≡ whole x t′ v′ → Below 256 t′ × Below 256 v′ × Below 256 u
+      go (by-fault f) e = let (a, b) = both e h k in (a, b, l)
+      go (by-area i m) e = let (a, b) = both e h k in (a, b, l)
+      go (by-test i m none) e = let (a, b) = both e h k in (a, b, cleared-bytes s l)
+      go (by-table i m fails d) e = let (a, b) = tabled-bytes (subst (Tabled p t v) e d) h k in (a, b, cleared-bytes s l)

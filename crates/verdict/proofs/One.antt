@@ -24,7 +24,7 @@ use Rattle.grammar.proofs.Unique.{right-unique}
 use Rattle.grammar.proofs.Size.{writeOut-numbered}
 use Rattle.verdict.specs.Record.{formOf}
 use Rattle.verdict.specs.Table.{records, slots, onto}
-use Rattle.verdict.specs.Checked.{Whole, whole, Result, alike as same, unlike as differ, refused as refuse}
+use Rattle.verdict.specs.Tabled.{Whole, whole, Result, alike as same, unlike as differ, refused as refuse}
 use Rattle.verdict.specs.Code.Found.{Found, not-read, same-cuts, first-witness, no-slot, no-room}
 use Rattle.verdict.proofs.OneEnd.{Shown, alike-of, unlike-of, full-of, show, same-outcome}
 

@@ -21,7 +21,7 @@ use Rattle.grammar.proofs.Right.{unambiguous, not-both}
 use Rattle.grammar.proofs.Size.{writeOut-numbered}
 use Rattle.verdict.specs.Record.{formOf}
 use Rattle.verdict.specs.Table.{records, slots, onto}
-use Rattle.verdict.specs.Checked.{Result, alike as same, unlike as differ, refused as refuse}
+use Rattle.verdict.specs.Tabled.{Result, alike as same, unlike as differ, refused as refuse}
 use Rattle.verdict.specs.Code.Found.{Found, not-read, same-cuts, first-witness, no-slot, no-room}
 use Rattle.verdict.specs.Demand.{NoneCut, FirstCut, Number, Outnumber, Longer}
 use Rattle.verdict.proofs.Tables.{records-size, slots-fit, onto-length}
@@ -144,15 +144,6 @@ module _ {p t v : List ℕ} where
       either (λ x. inl (ten-only x)) (λ x. inr (eleven-only x .1)),
       either (λ x. inl (ten-if x)) too-long,
     )
-
-  -- A refusal of the reader's is the pattern's fault, and the buffers keep every byte.
-  pub reader-refusal : {n q : ℕ} {t′ v′ : List ℕ} → Found p t v (refuse n q) t′ v′ → n ≤ 8 → Fault p n q × (t′ ≡ t) × (v′ ≡ v)
-  reader-refusal {n} {q} (not-read {n = m} {q = k} f e g h) l =
-      let x : m ≡ n = cc in let y : k ≡ q = cc in (subst (λ z. Fault p z q) x (subst (Fault p m) y f), g, h)
-  reader-refusal (same-cuts h c k e f g) l = absurd (let z : _≡_ {A = ℕ} 0 1 = cc in omega arith)
-  reader-refusal (first-witness h c j k e f g) l = absurd (let z : _≡_ {A = ℕ} 0 1 = cc in omega arith)
-  reader-refusal {n} (no-slot h c k e f g) l = absurd (let z : n ≡ 10 = cc in omega arith)
-  reader-refusal {n} (no-room h c j k e f g) l = absurd (let z : n ≡ 11 = cc in omega arith)
 
   -- The buffers keep their lengths.
   pub kept : {x : Result} {t′ v′ : List ℕ} → Found p t v x t′ v′ → (length t′ ≡ length t) × (length v′ ≡ length v)

@@ -15,7 +15,7 @@ use Rattle.grammar.proofs.Size.{writeOut-numbered}
 use Rattle.verdict.specs.Bits.{bits, bit, fromBits, pack}
 use Rattle.verdict.specs.Record.{Form, formOf, spareBits, setBits, sixBits, recordBits, recordBytes}
 use Rattle.verdict.specs.Table.{body, lastByte, numberOf, recordOf, recordsOf, records, onto}
-use Rattle.verdict.specs.Checked.{Result}
+use Rattle.verdict.specs.Tabled.{Result}
 use Rattle.verdict.specs.Code.Found.{Found, not-read, same-cuts, first-witness, no-slot, no-room}
 use Rattle.verdict.proofs.Words.{first-cut}
 

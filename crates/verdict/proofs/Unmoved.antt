@@ -1,8 +1,8 @@
--- What requests 1, 2, 5 and 7 of paper 02 leave as it was of the checker's result.
+-- What requests 1, 2, 5, 7 and 8 of paper 02 leave as it was of the checker's result.
 -- Assumes nothing.
 use mathlib.Core.Path.{_≡_, refl, sym, ap, ap₂, _∙_, subst}
 use mathlib.Core.Bool.{Bool, true, false, cond}
-use mathlib.Core.Logic.{_↔_, _≢_}
+use mathlib.Core.Logic.{_⊎_, inl, inr, _↔_, _≢_}
 use mathlib.Core.List.{List, _++_}
 use mathlib.Core.Option.{Option, none, some}
 use Prim.Native.Nat.{ℕ, _-_, _*_, _/_, _≤_, _<_, min}
@@ -15,9 +15,11 @@ use Rattle.theory.specs.Pattern.{Re, count}
 use Rattle.theory.specs.Standing.{Standing, standingBy, standing}
 use Rattle.theory.specs.Records.{at, Needs}
 use Rattle.theory.proofs.Sizes.{order-size}
-use Rattle.theory.proofs.Tests.{T-true, not-true}
+use Rattle.theory.proofs.Tests.{T-true, not-true, either}
 use Rattle.theory.specs.Base.{base, Plain, bare, turnsFirst}
 use Rattle.theory.proofs.Unmoved.{plain-standing, bare-standing, eager-standing}
+use Rattle.extends.specs.Extends.{NoneExtends}
+use Rattle.extends.proofs.Alike.{none-cut}
 use Rattle.grammar.specs.Grammar.{Alternation}
 use Rattle.grammar.specs.Limits.{Reads}
 use Rattle.grammar.specs.WriteOut.{writeOut}
@@ -27,45 +29,50 @@ use Rattle.grammar.proofs.Right.{unambiguous, not-both}
 use Rattle.grammar.proofs.Size.{writeOut-numbered, leaves-64}
 use Rattle.verdict.specs.Record.{Form, formOf, narrow, wide}
 use Rattle.verdict.specs.Table.{numberOf, body, lastByte, recordsOf, records, slots, onto}
-use Rattle.verdict.specs.Checked.{Result, alike, unlike, refused, Whole, whole, decided, due, CheckedBy, by-reader, by-records, Checked}
+use Rattle.verdict.specs.Tabled.{Result, alike, unlike, refused, Whole, whole, decided, due, TabledBy, by-reader, by-records, Tabled}
+use Rattle.verdict.specs.Area.{cleared}
+use Rattle.verdict.specs.Checked.{CheckedBy, Checked, by-fault, by-area, by-test, by-table}
+use Rattle.verdict.specs.Demand.{NoneCut}
 use Rattle.verdict.proofs.Tables.{slot}
 use Rattle.verdict.proofs.Forms.{narrow-least, narrow-most, wide-narrow}
 use Rattle.verdict.proofs.One.{result, table, witness}
-use Rattle.verdict.proofs.Checked.{needs-one}
+use Rattle.verdict.proofs.Tabled.{needs-one}
+use Rattle.verdict.proofs.Checked.{checked-by}
+use Rattle.verdict.proofs.ByTable.{tabled-numbers, tabled-unlike, tabled-eleven}
 
 -- Two standings of the written-out pattern that are the same give the same results.
 module _ {p t v : List ℕ} (stand : Re → List ℕ → Standing) (same : (a : Alternation) → Reads p a → standing (writeOut a) ≡ stand (writeOut a)) where
-  to : {z : Whole} → Checked p t v z → CheckedBy formOf stand p t v z
+  to : {z : Whole} → Tabled p t v z → TabledBy formOf stand p t v z
   to (by-reader f) = by-reader f
   to (by-records {a = a} {L = L} {w = w} i n) =
-      subst (λ s. CheckedBy formOf stand p t v (due (formOf (writeOut a)) s t v L w)) (sym (same a i)) (by-records i (subst (λ s. Needs s L w) (same a i) n))
+      subst (λ s. TabledBy formOf stand p t v (due (formOf (writeOut a)) s t v L w)) (sym (same a i)) (by-records i (subst (λ s. Needs s L w) (same a i) n))
 
-  back : {z : Whole} → CheckedBy formOf stand p t v z → Checked p t v z
+  back : {z : Whole} → TabledBy formOf stand p t v z → Tabled p t v z
   back (by-reader f) = by-reader f
-  back (by-records {a = a} {L = L} {w = w} i n) = subst (λ s. Checked p t v (due (formOf (writeOut a)) s t v L w)) (same a i) (by-records i (subst (λ s. Needs s L w) (sym (same a i)) n))
+  back (by-records {a = a} {L = L} {w = w} i n) = subst (λ s. Tabled p t v (due (formOf (writeOut a)) s t v L w)) (same a i) (by-records i (subst (λ s. Needs s L w) (sym (same a i)) n))
 
 module _ {p t v : List ℕ} (z : Whole) where
-  -- THE RESULT OF A PLAIN PATTERN IS AS IT WAS, and so is every byte of both buffers; a refused pattern's too.
-  pub plain-checked : ((a : Alternation) → Reads p a → Plain (writeOut a)) → Checked p t v z ↔ CheckedBy formOf (standingBy base) p t v z
-  plain-checked plain =
+  -- The result of a plain pattern is as it was, and so is every byte of both buffers; a refused pattern's too.
+  pub plain-tabled : ((a : Alternation) → Reads p a → Plain (writeOut a)) → Tabled p t v z ↔ TabledBy formOf (standingBy base) p t v z
+  plain-tabled plain =
       let same : (a : Alternation) → Reads p a → standing (writeOut a) ≡ standingBy base (writeOut a) = λ a i k w. plain-standing (writeOut a) (plain a i) w k in
       (to (standingBy base) same, back (standingBy base) same)
 
-  -- THE RESULT IS THAT OF THE PATTERN WITHOUT ITS BRACKETS, for every pattern, and every byte of both buffers.
-  pub bare-checked : Checked p t v z ↔ CheckedBy formOf (λ r. standing (bare r)) p t v z
-  bare-checked =
+  -- The result is that of the pattern without its brackets, for every pattern, and every byte of both buffers.
+  pub bare-tabled : Tabled p t v z ↔ TabledBy formOf (λ r. standing (bare r)) p t v z
+  bare-tabled =
       let same : (a : Alternation) → Reads p a → standing (writeOut a) ≡ standing (bare (writeOut a)) = λ a i k w. bare-standing (writeOut a) w k in
       (to (λ r. standing (bare r)) same, back (λ r. standing (bare r)) same)
 
-  -- THE RESULT OF A PATTERN WITHOUT LAZY REPEATS IS AS IT WAS, and so is every byte of both buffers.
-  pub eager-checked : ((a : Alternation) → Reads p a → eagerly a ≡ a) → Checked p t v z ↔ CheckedBy formOf (standingBy turnsFirst) p t v z
-  eager-checked unsigned =
+  -- The result of a pattern without lazy repeats is as it was, and so is every byte of both buffers.
+  pub eager-tabled : ((a : Alternation) → Reads p a → eagerly a ≡ a) → Tabled p t v z ↔ TabledBy formOf (standingBy turnsFirst) p t v z
+  eager-tabled unsigned =
       let same : (a : Alternation) → Reads p a → standing (writeOut a) ≡ standingBy turnsFirst (writeOut a) = λ a i k w. eager-standing (writeOut a) (unsigned-eager a (unsigned a i)) w k in
       (to (standingBy turnsFirst) same, back (standingBy turnsFirst) same)
 
 -- What is due to a pattern that needs the records with the first lines L, by any form of records.
 module _ {p : List ℕ} {a : Alternation} {L : List (List ℕ)} {w : Option (List ℕ)} (i : Reads p a) (needs : Needs (standing (writeOut a)) L w) (form : Re → Form) {t v : List ℕ} where
-  due-only : {z : Whole} → CheckedBy form standing p t v z → z ≡ due (form (writeOut a)) (standing (writeOut a)) t v L w
+  due-only : {z : Whole} → TabledBy form standing p t v z → z ≡ due (form (writeOut a)) (standing (writeOut a)) t v L w
   due-only (by-reader {n = n} {q = q} f) = absurd (not-both p a n q i f)
   due-only (by-records {a = b} {L = M} {w = u} j n) =
       let e : b ≡ a = unambiguous p b a j i in
@@ -73,7 +80,7 @@ module _ {p : List ℕ} {a : Alternation} {L : List (List ℕ)} {w : Option (Lis
       ap (λ c. due (form (writeOut c)) (standing (writeOut c)) t v M u) e ∙ ap₂ (due (form (writeOut a)) (standing (writeOut a)) t v) x y
 
   -- With enough slots it is decided.
-  decided-only : {z : Whole} → length L ≤ slots (form (writeOut a)) (length t) → CheckedBy form standing p t v z → z ≡ decided (form (writeOut a)) (standing (writeOut a)) t v L w
+  decided-only : {z : Whole} → length L ≤ slots (form (writeOut a)) (length t) → TabledBy form standing p t v z → z ≡ decided (form (writeOut a)) (standing (writeOut a)) t v L w
   decided-only h c =
       due-only c ∙ rw (not-true (ltb (slots (form (writeOut a)) (length t)) (length L)) λ x. omega (arith, ltb→lt (slots (form (writeOut a)) (length t)) (length L) x))
 
@@ -98,7 +105,7 @@ decided-parts f stand t v L (some w) = go (ltb (length v) (length w))
 -- Paper 01's records beside request 7's, for tables with enough slots in both forms.
 module _ {p : List ℕ} {a : Alternation} {L : List (List ℕ)} {w : Option (List ℕ)} (i : Reads p a) (needs : Needs (standing (writeOut a)) L w) {t u v : List ℕ}
     (enough : length L ≤ slots wide (length t)) (room : length L ≤ slots (formOf (writeOut a)) (length u))
-    {x y : Result} {t′ u′ v′ w′ : List ℕ} (old : CheckedBy (λ r. wide) standing p t v (whole x t′ v′)) (new : Checked p u v (whole y u′ w′)) where
+    {x y : Result} {t′ u′ v′ w′ : List ℕ} (old : TabledBy (λ r. wide) standing p t v (whole x t′ v′)) (new : Tabled p u v (whole y u′ w′)) where
   old-is : whole x t′ v′ ≡ whole (resultDue v L w) (onto t (records wide (standing (writeOut a)) L)) (bufferDue v w)
   old-is = decided-only i needs (λ r. wide) enough old ∙ decided-parts wide (standing (writeOut a)) t v L w
 
@@ -134,12 +141,12 @@ more-slots n m h =
     let few : q ≤ m / w = le-div-iff-mul-le {k = w} {x = q} {y = m} (omega (arith, narrow-least n)) .1 fit in
     omega arith
 
--- NO VERDICT IS LOST: what was decided in a table with paper 01's records is decided in it, the same.
-pub verdict-stays : {p t v : List ℕ} {x : Result} {t′ v′ : List ℕ} → x ≢ refused 10 0 → CheckedBy (λ r. wide) standing p t v (whole x t′ v′) → (u : List ℕ) × Checked p t v (whole x u v′)
-verdict-stays {p} {t} {v} {x} {t′} {v′} other old = go old refl
+-- No verdict of the records is lost: what was decided in a table with paper 01's records is decided in it, the same.
+pub tabled-stays : {p t v : List ℕ} {x : Result} {t′ v′ : List ℕ} → x ≢ refused 10 0 → TabledBy (λ r. wide) standing p t v (whole x t′ v′) → (u : List ℕ) × Tabled p t v (whole x u v′)
+tabled-stays {p} {t} {v} {x} {t′} {v′} other old = go old refl
   where
-    go : {z : Whole} → CheckedBy (λ r. wide) standing p t v z → z ≡ whole x t′ v′ → (u : List ℕ) × Checked p t v (whole x u v′)
-    go (by-reader {n = n} {q = q} f) e = (t, subst (λ z. Checked p t v (whole (result z) t (witness z))) e (by-reader f))
+    go : {z : Whole} → TabledBy (λ r. wide) standing p t v z → z ≡ whole x t′ v′ → (u : List ℕ) × Tabled p t v (whole x u v′)
+    go (by-reader {n = n} {q = q} f) e = (t, subst (λ z. Tabled p t v (whole (result z) t (witness z))) e (by-reader f))
     go (by-records {a = a} {L = L} {w = w} i needs) e =
         elim (decLt (slots wide (length t)) (length L)) [
           | yes l ↦ (
@@ -150,11 +157,51 @@ verdict-stays {p} {t} {v} {x} {t′} {v′} other old = go old refl
           | no l ↦ (
               let enough : length L ≤ slots wide (length t) = omega arith in
               let room : length L ≤ slots (formOf (writeOut a)) (length t) = omega (arith, more-slots (count (writeOut a)) (length t) (leaves-64 p a i)) in
-              let new : Checked p t v (due (formOf (writeOut a)) (standing (writeOut a)) t v L w) = by-records i needs in
+              let new : Tabled p t v (due (formOf (writeOut a)) (standing (writeOut a)) t v L w) = by-records i needs in
               let is = decided-only i needs formOf room new ∙ decided-parts (formOf (writeOut a)) (standing (writeOut a)) t v L w in
               let was = sym e ∙ decided-only i needs (λ r. wide) enough (by-records i needs) ∙ decided-parts wide (standing (writeOut a)) t v L w in (
                 onto t (records (formOf (writeOut a)) (standing (writeOut a)) L),
-                subst (λ z. Checked p t v (whole (result z) (onto t (records (formOf (writeOut a)) (standing (writeOut a)) L)) (witness z))) (sym was) (subst (Checked p t v) is new),
+                subst (λ z. Tabled p t v (whole (result z) (onto t (records (formOf (writeOut a)) (standing (writeOut a)) L)) (witness z))) (sym was) (subst (Tabled p t v) is new),
               )
               )
         ]
+
+-- The same of the checker's result, with the test before the records.
+module _ {p t v s : List ℕ} (z : Whole) (s′ : List ℕ) where
+  -- THE RESULT OF A PLAIN PATTERN IS AS IT WAS, and so is every byte of the buffers and of the area.
+  pub plain-checked : ((a : Alternation) → Reads p a → Plain (writeOut a)) → Checked p t v s z s′ ↔ CheckedBy formOf (standingBy base) p t v s z s′
+  plain-checked plain = (checked-by λ y. plain-tabled y plain .0, checked-by λ y. plain-tabled y plain .1)
+
+  -- THE RESULT IS THAT OF THE PATTERN WITHOUT ITS BRACKETS, for every pattern.
+  pub bare-checked : Checked p t v s z s′ ↔ CheckedBy formOf (λ r. standing (bare r)) p t v s z s′
+  bare-checked = (checked-by λ y. bare-tabled y .0, checked-by λ y. bare-tabled y .1)
+
+  -- THE RESULT OF A PATTERN WITHOUT LAZY REPEATS IS AS IT WAS.
+  pub eager-checked : ((a : Alternation) → Reads p a → eagerly a ≡ a) → Checked p t v s z s′ ↔ CheckedBy formOf (standingBy turnsFirst) p t v s z s′
+  eager-checked unsigned = (checked-by λ y. eager-tabled y unsigned .0, checked-by λ y. eager-tabled y unsigned .1)
+
+-- NO VERDICT IS LOST.
+pub verdict-stays : {p t v s : List ℕ} {x : Result} {t′ v′ s′ : List ℕ} → x ≢ refused 10 0 → CheckedBy (λ r. wide) standing p t v s (whole x t′ v′) s′ → (u : List ℕ) × Checked p t v s (whole x u v′) s′
+verdict-stays {p} {t} {v} {s} {x} {t′} {v′} other old = go old refl
+  where
+    go : {z : Whole} {s′ : List ℕ} → CheckedBy (λ r. wide) standing p t v s z s′ → z ≡ whole x t′ v′ → (u : List ℕ) × Checked p t v s (whole x u v′) s′
+    go (by-fault f) e = (t, subst (λ z. Checked p t v s (whole (result z) t (witness z)) s) e (by-fault f))
+    go (by-area i l) e = (t, subst (λ z. Checked p t v s (whole (result z) t (witness z)) s) e (by-area i l))
+    go (by-test i l h) e = (t, subst (λ z. Checked p t v s (whole (result z) t (witness z)) (cleared s)) e (by-test i l h))
+    go (by-table i l h c) e = let (u, d) = tabled-stays other (subst (TabledBy (λ r. wide) standing p t v) e c) in (u, by-table i l h d)
+
+-- WHAT THE TEST SETTLES WAS NEVER UNLIKE: the records of a pattern that passes gave alike, or were too many for the table.
+pub passes-tabled : {p t v : List ℕ} {a : Alternation} {x : Result} {t′ v′ : List ℕ} → Reads p a → NoneExtends (writeOut a) → Tabled p t v (whole x t′ v′) → ((n : ℕ) × (x ≡ alike n)) ⊎ (x ≡ refused 10 0)
+passes-tabled {p} {t} {v} {a} {x} {t′} {v′} i passes c = go x c
+  where
+    clear : NoneCut (writeOut a)
+    clear = none-cut (writeOut a) (writeOut-numbered a) passes
+
+    go : (y : Result) → Tabled p t v (whole y t′ v′) → ((n : ℕ) × (y ≡ alike n)) ⊎ (y ≡ refused 10 0)
+    go (alike n) d = inl (n, refl)
+    go (unlike n k) d = let f = tabled-unlike a i d .0 in absurd (clear (take k v′) (f .bytes) (f .cut))
+    go (refused n q) d =
+        let (number, place) = tabled-numbers i d in
+        either (λ e. inr (ap₂ refused e place))
+        (λ e. let (w, f, l) = tabled-eleven a i .0 (t′, v′, subst (λ y. Tabled p t v (whole y t′ v′)) (ap₂ refused e place) d) .1 in absurd (clear w (f .bytes) (f .cut)))
+        number

@@ -1,55 +1,31 @@
--- "The checker's result", with the content of table and witness buffer, for every pattern and for table and buffer of any lengths.
+-- "The checker's result", with the content of table, witness buffer and area, for every pattern and for table, buffer and area of any lengths. Request 8 of paper 02:
+-- a test comes before the table is touched, and the records decide where it fails.
 -- Assumes nothing.
-use Prim.Native.Nat.{ℕ}
-use mathlib.Core.Bool.{cond}
+use Prim.Native.Nat.{ℕ, _≤_, _<_}
 use mathlib.Core.List.{List}
-use mathlib.Core.Option.{Option, none, some}
-use lib.ListN.{length, take}
-use lib.Dec.{ltb}
+use lib.ListN.{length}
 use Rattle.theory.specs.Pattern.{Re}
 use Rattle.theory.specs.Standing.{Standing, standing}
-use Rattle.theory.specs.Records.{Needs}
+use Rattle.extends.specs.Extends.{NoneExtends}
 use Rattle.grammar.specs.Grammar.{Alternation}
 use Rattle.grammar.specs.Limits.{Reads}
 use Rattle.grammar.specs.Refusals.{Fault}
 use Rattle.grammar.specs.WriteOut.{writeOut}
 use Rattle.verdict.specs.Record.{Form, formOf}
-use Rattle.verdict.specs.Table.{recordsOf, records, slots, onto}
+use Rattle.verdict.specs.Tabled.{alike, refused, Whole, whole, TabledBy}
+use Rattle.verdict.specs.Area.{areaBytes, cleared}
 
--- "Alike with the record count, unlike with count and witness, or a refusal" with number and place. The witness is given by its length: it stands in the buffer.
-pub data Result : Type 0 where
-  alike : ℕ → Result
-  unlike : ℕ → ℕ → Result
-  refused : ℕ → ℕ → Result
-
--- A result with what the table and the witness buffer then hold.
-pub data Whole : Type 0 where
-  whole : Result → List ℕ → List ℕ → Whole
-
--- L has the first lines of the records that the pattern needs, and w is the first witness if there is one. With slots enough: alike ("witness buffer kept"),
--- 11 ("the witness is longer than its buffer; all records are written, the buffer is kept") or unlike ("written at the start of the witness buffer, the rest kept").
-abbrev pub decided : Form → (List ℕ → Standing) → List ℕ → List ℕ → List (List ℕ) → Option (List ℕ) → Whole
-decided f stand t v L none = whole (alike (length L)) (onto t (records f stand L)) v
-decided f stand t v L (some w) =
-    cond (ltb (length v) (length w))
-    (whole (refused 11 0) (onto t (records f stand L)) v)
-    (whole (unlike (length L) (length w)) (onto t (records f stand L)) (onto v w))
-
--- "10: more records needed than slots; all slots hold their records, the witness buffer is kept." "11: no 10."
-abbrev pub due : Form → (List ℕ → Standing) → List ℕ → List ℕ → List (List ℕ) → Option (List ℕ) → Whole
-due f stand t v L w =
-    cond (ltb (slots f (length t)) (length L))
-    (whole (refused 10 0) (onto t (recordsOf f stand L (take (slots f (length t)) L))) v)
-    (decided f stand t v L w)
-
--- The result and content that is right for the pattern p, the table t and the witness buffer v, where `form` is the form of each pattern's records and `stand` gives its
--- lines their standings.
--- "A refused pattern goes no further than the reader": it leaves every byte.
-pub data CheckedBy (form : Re → Form) (stand : Re → List ℕ → Standing) (p t v : List ℕ) : Whole → Type 0 where
-  by-reader : {n q : ℕ} → Fault p n q → CheckedBy form stand p t v (whole (refused n q) t v)
-  by-records : {a : Alternation} {L : List (List ℕ)} {w : Option (List ℕ)} → Reads p a → Needs (stand (writeOut a)) L w
-      → CheckedBy form stand p t v (due (form (writeOut a)) (stand (writeOut a)) t v L w)
+-- The result with what table and witness buffer then hold, and what the area then holds, for the pattern p, the table t, the witness buffer v and the area s.
+pub data CheckedBy (form : Re → Form) (stand : Re → List ℕ → Standing) (p t v s : List ℕ) : Whole → List ℕ → Type 0 where
+  -- "A refused pattern goes no further than the reader": it leaves every byte.
+  by-fault : {n q : ℕ} → Fault p n q → CheckedBy form stand p t v s (whole (refused n q) t v) s
+  -- "A lent area below 1,024 bytes is 13 at place 0, after the reader's refusals and before 10, with every buffer unchanged."
+  by-area : {a : Alternation} → Reads p a → length s < areaBytes → CheckedBy form stand p t v s (whole (refused 13 0) t v) s
+  -- The test "passes exactly if no matched string" extends to a longer matched one; "if it passes, the verdict is alike with count 0 and the table keeps its bytes".
+  by-test : {a : Alternation} → Reads p a → areaBytes ≤ length s → NoneExtends (writeOut a) → CheckedBy form stand p t v s (whole (alike 0) t v) (cleared s)
+  -- It fails: the records decide.
+  by-table : {a : Alternation} {z : Whole} → Reads p a → areaBytes ≤ length s → (NoneExtends (writeOut a) → ⊥) → TabledBy form stand p t v z → CheckedBy form stand p t v s z (cleared s)
 
 -- By request 7's records, and judged by the order of preference.
-abbrev pub Checked : List ℕ → List ℕ → List ℕ → Whole → Type 0
-Checked p t v z = CheckedBy formOf standing p t v z
+abbrev pub Checked : List ℕ → List ℕ → List ℕ → List ℕ → Whole → List ℕ → Type 0
+Checked p t v s z s′ = CheckedBy formOf standing p t v s z s′

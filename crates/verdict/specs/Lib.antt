@@ -2,6 +2,8 @@
 pub mod Bits
 pub mod Record
 pub mod Table
+pub mod Tabled
+pub mod Area
 pub mod Checked
 pub mod Demand
 pub mod Starred

@@ -1,8 +1,8 @@
--- Paper 01's starred reference lines, from the bytes of the patterns; one of them as request 1 of paper 02 has it, those with a table as request 7 has them, and lines
--- of lazy repeats.
+-- Paper 01's starred reference lines, from the bytes of the patterns; one of them as request 1 of paper 02 has it, those with a table as requests 7 and 8 have them, and
+-- lines of lazy repeats.
 -- Assumes nothing.
 use mathlib.Core.Path.{_≡_}
-use Prim.Native.Nat.{ℕ}
+use Prim.Native.Nat.{ℕ, _≤_}
 use mathlib.Core.List.{List, [], _∷_, _++_}
 use lib.ListN.{length, replicate}
 use Rattle.theory.specs.Spans.{Span, nowhere, span, greedy, posix}
@@ -10,16 +10,18 @@ use Rattle.grammar.specs.Grammar.{Alternation}
 use Rattle.grammar.specs.Limits.{Reads}
 use Rattle.grammar.specs.WriteOut.{writeOut}
 use Rattle.verdict.specs.Table.{onto}
-use Rattle.verdict.specs.Checked.{Result, alike, unlike, refused, whole, Checked}
+use Rattle.verdict.specs.Tabled.{Result, alike, unlike, refused, whole}
+use Rattle.verdict.specs.Area.{areaBytes, cleared}
+use Rattle.verdict.specs.Checked.{Checked}
 
 pub data Row : Type 0 where
   cuts : (pattern line : List ℕ) (greedy posix : Span) → Row
-  -- With any table and witness buffer of these lengths: the result, the bytes written at the table's start, and those at the buffer's start.
+  -- With any table and witness buffer of these lengths, and any area that is long enough: the result, the bytes written at the table's start, and those at the buffer's start.
   checks : (pattern : List ℕ) (table buffer : ℕ) → Result → (records witness : List ℕ) → Row
 
 unfoldable pub RowHolds : Row → Type 0
 RowHolds (cuts p w g s) = (a : Alternation) × Reads p a × (greedy (writeOut a) w ≡ g) × (posix (writeOut a) w ≡ s)
-RowHolds (checks p n m x u w) = (t v : List ℕ) → length t ≡ n → length v ≡ m → Checked p t v (whole x (onto t u) (onto v w))
+RowHolds (checks p n m x u w) = (t v s : List ℕ) → length t ≡ n → length v ≡ m → areaBytes ≤ length s → Checked p t v s (whole x (onto t u) (onto v w)) (cleared s)
 
 unfoldable pub All : List Row → Type 0
 All [] = Unit {0}
@@ -69,5 +71,6 @@ starred =
     ∷ checks a|ab 64 1 (refused 11 0) four []
     ∷ checks empty-or-a 42 1 (unlike 3 1) three-loops (97 ∷ [])
     ∷ checks lazy-a 42 1 (unlike 3 1) three-loops (97 ∷ [])
-    ∷ checks (40 ∷ 41 ∷ []) 65536 5041 (alike 2) ((1 ∷ 128 ∷ replicate 11 0) ++ replicate 13 0) []  -- (), whose records have 13 bytes
+    ∷ checks (40 ∷ 41 ∷ []) 65536 5041 (alike 0) [] []  -- "`()` becomes alike 0", in place of alike 2,
+    ∷ checks (97 ∷ 42 ∷ []) 65536 5041 (alike 2) ((3 ∷ 128 ∷ 128 ∷ replicate 11 0) ++ replicate 14 0) []  -- "while `a*` is still alike 2"
     ∷ []

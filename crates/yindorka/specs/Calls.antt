@@ -116,15 +116,15 @@ pub record RewritesLine (p w : List ℕ) (r : Refusal) (w′ : List ℕ) : Type 
   pub rewritten : Rewrites p w answer w′
   pub means : r ≡ refusalOf answer
 
--- Kind 0: alike with the record count. 1: unlike with the count and the witness's length. 2: refused with number and place.
+-- Kind 0: alike with the record count, 0 if the test settled it. 1: unlike with the count and the witness's length. 2: refused with number and place.
 abbrev pub outcomeOf : Verdict → Outcome
 outcomeOf (Alike n) = record { kind = 0; first = n; second = 0 }
 outcomeOf (Unlike n k) = record { kind = 1; first = n; second = k }
 outcomeOf (Verdicts.Refused n q) = record { kind = 2; first = n; second = q }
 
-pub record Decided (p t v : List ℕ) (x : Outcome) (t′ v′ : List ℕ) : Type 0 where
+pub record Decided (p t v s : List ℕ) (x : Outcome) (t′ v′ s′ : List ℕ) : Type 0 where
   pub verdict : Verdict
-  pub checks : Checks p t v verdict t′ v′
+  pub checks : Checks p t v s verdict t′ v′ s′
   pub means : x ≡ outcomeOf verdict
 
 -- The same with the looking.
@@ -133,7 +133,7 @@ lookingOf x =
     let y = outcomeOf (x .verdict) in
     record { kind = y .kind; first = y .first; second = y .second; looks = x .looking .looks; comparisons = x .looking .comparisons }
 
-pub record Told (p t v : List ℕ) (x : Looking) (t′ v′ : List ℕ) : Type 0 where
+pub record Told (p t v s : List ℕ) (x : Looking) (t′ v′ s′ : List ℕ) : Type 0 where
   pub report : Report
-  pub reports : Reports p t v report t′ v′
+  pub reports : Reports p t v s report t′ v′ s′
   pub means : x ≡ lookingOf report

@@ -285,12 +285,17 @@ fn numbers_of(x: Verdict) -> Outcome
     }
 }
 
-// The checker's verdict, with what it writes to the table and to the witness buffer.
+// The checker's verdict, with what it writes to the table, to the witness buffer and to the area.
 #[no_mangle]
-pub extern "C" fn yindorka_check(pattern: &[u8], table: &mut [u8], witness: &mut [u8]) -> Outcome
-    ensures decided { λ r. ⌜ Decided (now (pattern .entry)) (now (table .entry)) (now (witness .entry)) r (now (table .exit)) (now (witness .exit)) ⌝ }
+pub extern "C" fn yindorka_check(
+    pattern: &[u8],
+    table: &mut [u8],
+    witness: &mut [u8],
+    area: &mut [u8],
+) -> Outcome
+    ensures decided { λ r. ⌜ Decided (now (pattern .entry)) (now (table .entry)) (now (witness .entry)) (now (area .entry)) r (now (table .exit)) (now (witness .exit)) (now (area .exit)) ⌝ }
 {
-    numbers_of(checker::check(pattern, table, witness))
+    numbers_of(checker::check(pattern, table, witness, area))
 }
 
 // The same, with how much looking through the records it took.
@@ -299,10 +304,11 @@ pub extern "C" fn yindorka_check_looking(
     pattern: &[u8],
     table: &mut [u8],
     witness: &mut [u8],
+    area: &mut [u8],
 ) -> Looking
-    ensures reported { λ r. ⌜ Told (now (pattern .entry)) (now (table .entry)) (now (witness .entry)) r (now (table .exit)) (now (witness .exit)) ⌝ }
+    ensures reported { λ r. ⌜ Told (now (pattern .entry)) (now (table .entry)) (now (witness .entry)) (now (area .entry)) r (now (table .exit)) (now (witness .exit)) (now (area .exit)) ⌝ }
 {
-    let report = checker::check_looking(pattern, table, witness);
+    let report = checker::check_looking(pattern, table, witness, area);
     let looking = report.looking;
     let verdict = report.verdict;
     let outcome = numbers_of(verdict);
@@ -315,10 +321,10 @@ pub extern "C" fn yindorka_check_looking(
     }
 }
 
-// The version of the library: 10700 is 1.7.0.
+// The version of the library: 10800 is 1.8.0.
 #[no_mangle]
 pub extern "C" fn yindorka_version() -> u32
-    ensures version { λ r. ⌜ r ≡ 10700 ⌝ }
+    ensures version { λ r. ⌜ r ≡ 10800 ⌝ }
 {
-    10700
+    10800
 }

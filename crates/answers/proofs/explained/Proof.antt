@@ -8,13 +8,13 @@ use Rattle.answers.proofs.explained.Statement.{statement}
 use Rattle.answers.proofs.explained.Tie as tie
 
 returns : tie.Need-returns
-returns c = rw (c .before .before .before .x .given .1) (λ t u t′ k. printed-most (omega arith) (c .alike .ensures))
+returns c = rw (c .before .before .before .x .given .1) (λ t u s t′ s′ k. printed-most (omega arith) (c .alike .ensures))
 
 returns-2 : tie.Need-returns-2
-returns-2 c = rw (c .before .before .before .x2 .given .1) (λ t u t′ k. let s = c .cut-witness .ensures in (s .0, witness-cut k (s .1), s .2, s .3))
+returns-2 c = rw (c .before .before .before .x2 .given .1) (λ t u s t′ s′ k. let l = c .cut-witness .ensures in (l .0, witness-cut k (l .1), l .2, l .3))
 
 returns-3 : tie.Need-returns-3
-returns-3 c = rw (c .before .before .before .x3 .given .1) (λ t u t′ k. printed-most (omega arith) (c .refused .ensures))
+returns-3 c = rw (c .before .before .before .x3 .given .1) (λ t u s t′ s′ k. printed-most (omega arith) (c .refused .ensures))
 
 pub explained-spec : {M : Type 1} → statement M
 explained-spec =

@@ -9,14 +9,14 @@ use Rattle.answers.proofs.judge.Tie as tie
 returns : tie.Need-returns
 returns c =
     let x = c .before .before .before .before .check in
-    let p = c .explained .ensures _ _ _ (x .ensures) in
-    (p .0, record { lent = (search needs, search needs); verdict = x .result; checks = x .ensures; line = rw (c .before .before .before .if1 .taken) (p .1) }, omega (arith, p .2, lengths-kept (x .ensures) .1), p .3)
+    let p = c .explained .ensures _ _ _ _ _ (x .ensures) in
+    (p .0, record { lent = (search needs, search needs, search needs); verdict = x .result; checks = x .ensures; line = rw (c .before .before .before .if1 .taken) (p .1) }, omega (arith, p .2, lengths-kept (x .ensures) .1), p .3)
 
 returns-2 : tie.Need-returns-2
 returns-2 c =
     let x = c .before .before .before .before .before .check in
     let p = c .verdict .ensures in
-    (p .0, record { lent = (search needs, search needs); verdict = x .result; checks = x .ensures; line = rw (c .before .before .before .before .if1 .left) (p .1) }, omega (arith, p .2, lengths-kept (x .ensures) .1), p .3)
+    (p .0, record { lent = (search needs, search needs, search needs); verdict = x .result; checks = x .ensures; line = rw (c .before .before .before .before .if1 .left) (p .1) }, omega (arith, p .2, lengths-kept (x .ensures) .1), p .3)
 
 pub judge-spec : {M : Type 1} → statement M
 judge-spec =

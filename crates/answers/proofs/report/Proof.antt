@@ -16,10 +16,10 @@ returns c =
     let c6 = c3 .before .before .before in
     let x = c6 .check-looking in
     let l = c3 .looking2 .ensures in
-    let p = c .explained .ensures _ _ _ (x .ensures .checks) in
-    reported-by _ (c6 .before .before .before .ahead .ensures) (
+    let p = c .explained .ensures _ _ _ _ _ (x .ensures .checks) in
+    reported-by _ (c6 .before .before .before .before .ahead .ensures) (
       _,
-      record { lent = (search needs, search needs); report = x .result; reports = x .ensures; head = l .0; looking = l .1; rest = p .0; line = p .1; text = refl },
+      record { lent = (c6 .before .before .before .check-looking-arg .given .0 .1, c6 .before .before .check-looking-arg2 .given .0 .1, c6 .before .check-looking-arg3 .given .0 .1); report = x .result; reports = x .ensures; head = l .0; looking = l .1; rest = p .0; line = p .1; text = refl },
       omega (arith, l .2, p .2, lengths-kept (x .ensures .checks) .1, length-append (l .0) (p .0)),
       join (l .3) (p .3),
     )

@@ -6,16 +6,13 @@ use Rattle.checker.proofs.check_looking.Statement.{statement}
 use Rattle.checker.proofs.check_looking.Tie as tie
 
 decide-requires : tie.Need-decide-requires
-decide-requires c κs = accepted-sound (c .before .before .before .before .before .read .ensures) (c .before .before .before .enum-told .given .1)
+decide-requires c κs = accepted-sound (c .before .before .before .before .before .before .read .ensures) (c .before .before .before .before .enum-told .given .1)
 
 returns : tie.Need-returns
-returns c =
-    let c4 = c .before .before .before .before in
-    let c8 = c4 .before .before .before .before in
-    reports-accepted (c8 .before .before .read .ensures) (c4 .decide .result) (c8 .enum-told .given .1) (c4 .decide .ensures)
+returns c = reports-accepted (c .before .before .before .before .before .before .before .before .before .before .before .before .before .read .ensures) (c .before .before .before .before .before .before .decide .result) (c .before .before .before .before .before .before .before .before .before .before .before .enum-told .given .1) (c .before .before .before .before .before .before .decide .ensures)
 
 returns-2 : tie.Need-returns-2
-returns-2 c = reports-refused (c .before .before .before .read .ensures) (c .before .answer .given .1)
+returns-2 c = reports-refused (c .before .before .before .before .read .ensures) (c .no-looking .ensures) (c .before .before .answer .given .1)
 
 pub check-looking-spec : {M : Type 1} → statement M
 check-looking-spec =
@@ -27,5 +24,7 @@ check-looking-spec =
     decide-requires
     (λ c. search needs)
     (λ c. search needs)
+    (λ c. search needs)
     returns
+    (λ c κs. search needs)
     returns-2)

@@ -13,6 +13,9 @@ slice-aggregate-check c = sym (length-take-le _ _ (omega arith))
 slice-aggregate-check-2 : tie.Need-slice-aggregate-check-2
 slice-aggregate-check-2 c = sym (length-take-le _ _ (omega arith))
 
+slice-aggregate-check-3 : tie.Need-slice-aggregate-check-3
+slice-aggregate-check-3 c = sym (length-take-le _ _ (omega arith))
+
 pub lend-spec : {M : Type 1} → statement M
 lend-spec =
     tie.close
@@ -22,7 +25,10 @@ lend-spec =
     slice-aggregate-check
     (λ c. search needs)
     slice-aggregate-check-2
+    (λ c. search needs)
+    slice-aggregate-check-3
     (λ c κs. search needs)
+    (λ c. search needs)
     (λ c. search needs)
     (λ c. search needs)
     (λ c. search needs))

@@ -7,10 +7,10 @@ use Rattle.library_calls.proofs.run.Statement.{statement}
 use Rattle.library_calls.proofs.run.Tie as tie
 
 abbrev Inv-loop : tie.InvT-loop
-Inv-loop chunk₀ line₀ out₀ table₀ witness₀ s₀ turns₀ chunk line out table witness s turns = s .used ≡ 0
+Inv-loop chunk₀ line₀ out₀ table₀ witness₀ area₀ s₀ turns₀ chunk line out table witness area s turns = s .used ≡ 0
 
 abbrev μ-loop : tie.MeasureT-loop
-μ-loop chunk₀ line₀ out₀ table₀ witness₀ s₀ turns₀ chunk line out table witness s turns = turns
+μ-loop chunk₀ line₀ out₀ table₀ witness₀ area₀ s₀ turns₀ chunk line out table witness area s turns = turns
 
 loop-holds : tie.Need-loop-holds Inv-loop μ-loop
 loop-holds c = ap (λ x. x .used) (c .start .ensures)

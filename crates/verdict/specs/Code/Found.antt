@@ -1,4 +1,4 @@
--- The right answer, case by case, as a search finds it: `Checked p t v (whole x t′ v′)` exactly if `Found p t v x t′ v′` (`checked-exactly`).
+-- The right answer, case by case, as a search finds it: `Tabled p t v (whole x t′ v′)` exactly if `Found p t v x t′ v′` (`tabled-exactly`).
 -- Assumes nothing.
 use mathlib.Core.Path.{_≡_}
 use Prim.Native.Nat.{ℕ, suc, _≤_, _<_}
@@ -12,7 +12,7 @@ use Rattle.grammar.specs.Limits.{Reads}
 use Rattle.grammar.specs.Refusals.{Fault}
 use Rattle.grammar.specs.WriteOut.{writeOut}
 use Rattle.verdict.specs.Record.{formOf}
-use Rattle.verdict.specs.Checked.{Result, alike, unlike, refused}
+use Rattle.verdict.specs.Tabled.{Result, alike, unlike, refused}
 use Rattle.verdict.specs.Table.{records, slots, onto}
 
 pub data Found (p t v : List ℕ) (x : Result) (t′ v′ : List ℕ) : Type 0 where

@@ -6,7 +6,7 @@ use Rattle.yindorka.proofs.yindorka_check_looking.Tie as tie
 
 returns : tie.Need-returns
 returns c =
-    let x = c .before .before .before .before .before .before .check-looking in
+    let x = c .before .before .before .before .before .before .before .before .check-looking in
     let n = c .numbers-of .ensures in
     record {
       report = x .result;
@@ -16,4 +16,4 @@ returns c =
 
 pub yindorka-check-looking-spec : {M : Type 1} → statement M
 yindorka-check-looking-spec =
-    tie.close (tie.spec (λ c κs. search needs) (λ c κs. search needs) (λ c. search needs) (λ c. search needs) returns)
+    tie.close (tie.spec (λ c κs. search needs) (λ c κs. search needs) (λ c. search needs) (λ c. search needs) (λ c. search needs) returns)
