@@ -128,7 +128,7 @@ fn decide(x: Pattern, table: &mut [u8], witness: &mut [u8], area: &mut [u8]) -> 
     ensures { λ r. ⌜ Decides x (now (table .entry)) (now (witness .entry)) (now (area .entry)) r (now (table .exit)) (now (witness .exit)) (now (area .exit)) ⌝ }
 {
     let masks = x.masks;
-    let leaves = x.leaves;
+    let width = records::width(x.leaves);
     let tables = follow::tables_of(x);
     let sets = tables.sets;
     let ends = tables.ends;
@@ -146,7 +146,6 @@ fn decide(x: Pattern, table: &mut [u8], witness: &mut [u8], area: &mut [u8]) -> 
             looking: no_looking(),
         },
         Ending::Fails => {
-            let width = records::width(leaves);
             let rows = tables.rows;
             let lens = tables.lens;
             by_records(table, witness, width, &masks, &rows, &lens, &sets, &ends)

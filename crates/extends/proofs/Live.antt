@@ -16,7 +16,7 @@ use Rattle.theory.specs.Code.Follow.{Next, follow, hasEnd}
 use Rattle.theory.proofs.Tests.{T-true, true-T, or-left, or-right, or-cases, and-split, and-join, either}
 use Rattle.theory.proofs.Members.{Within, any-found, any-of, member-from, length-from, once-size}
 use Rattle.theory.proofs.Extend.{has-beyond}
-use Rattle.extends.specs.Code.Pairs.{Takes, Share, Follows, Ends, Live, last, onward}
+use Rattle.extends.specs.Code.Pairs.{Takes, Share, Live, last, onward}
 use Rattle.extends.specs.Code.Test.{meets, leads, takes, share, rounds, live}
 use Rattle.extends.proofs.Lists.{T-stable, from-below, filter-within, passing, once-from, once-filter}
 
@@ -141,11 +141,3 @@ module _ (r : Re) where
 
     pub live-exactly : (p : ℕ) → T (member p (live r)) ↔ Live r p
     live-exactly p = (rounds-sound (count r) p, rounds-complete)
-
-    -- A set that has only live leaves, and each leaf that leads to an end or to one of the set, has all of them.
-    pub live-closed : (L : ℕ → Bool) → ((p : ℕ) → T (L p) → Live r p) → ((p : ℕ) → Takes r p → Ends r p ⊎ ((q : ℕ) × Follows r p q × T (L q)) → T (L p)) → (p : ℕ) → T (L p) ↔ Live r p
-    live-closed L s c p = (s p, go)
-      where
-        go : {q : ℕ} → Live r q → T (L q)
-        go {q} (last t e) = c q t (inl e)
-        go {q} (onward {q = x} t f h) = c q t (inr (x, f, go h))

@@ -10,8 +10,6 @@ use native.Mathlib.Nat.{mul-add-div-right, mul-add-mod-self-right, div-eq-of-lt,
 use lib.Dec.{T, T-not, not-T}
 use Rattle.theory.specs.Pattern.{Re, count, Numbered}
 use Rattle.theory.specs.Standing.{wanted, member}
-use Rattle.theory.specs.Spans.{greedy, posix}
-use Rattle.theory.specs.Lines.{Below}
 use Rattle.theory.specs.Code.Members.{any}
 use Rattle.theory.specs.Code.Follow.{start, follow, hasEnd}
 use Rattle.theory.proofs.Tests.{true-T, or-left, or-right, or-cases, and-split, and-join, either}
@@ -21,7 +19,6 @@ use Rattle.extends.specs.Code.Pairs.{First, Follows, Ends, Share, Live, 
 use Rattle.extends.specs.Code.Closing.{Reach}
 use Rattle.extends.specs.Code.Worklist.{Begins, Steps}
 use Rattle.extends.specs.Code.Test.{meets, share, live, firstPair, nextPair, pairs, failsAt, fails}
-use Rattle.extends.proofs.Alike.{same-spans}
 use Rattle.extends.proofs.Pairs.{fails-extends, passes-none}
 use Rattle.extends.proofs.Worklist.{search-finds}
 use Rattle.extends.proofs.Live.{meets-found, meets-of, share-exactly, takes-below, live-exactly}
@@ -88,13 +85,6 @@ module _ (r : Re) (n : ℕ) where
               (and-three (member p (wanted (follow r a))) (member q (wanted (follow r c))) (share r p q) .1 (f, g, share-exactly r p q .1 s)),
         )
 
-    -- The pairs found are the reached.
-    pub pairs-exactly : (p q : ℕ) → q < n → T (member (p * n + q) (pairs r n)) ↔ Reached r p q
-    unfolding pairs
-    pairs-exactly p q l =
-        let c = search-finds (n * n) (firstPair r n) (nextPair r n) (p * n + q) in
-        (λ t. rw (pair-left n p q l, pair-right n p q l) at (found-reached (c .0 t)), λ h. c .1 (reached-found h))
-
     -- The test by sets of marked pairs and of live leaves, whatever holds them.
     pub fails-by : (M L : ℕ → Bool) → ((x : ℕ) → T (M x) ↔ Numbers x) → ((p : ℕ) → T (L p) ↔ Live r p) → FailsBy M L ↔ Fails r
     fails-by M L m l = (
@@ -128,16 +118,12 @@ module _ (r : Re) (n : ℕ) where
               (by .1 f),
         )
 
-    -- IT PASSES exactly if no matched string extends to a longer matched one,
+    -- IT PASSES exactly if no matched string extends to a longer matched one.
     pub test-exactly : T (not (fails r n)) ↔ NoneExtends r
     test-exactly = (
       λ t. passes-none r d .0 λ f. T-not (fails r n) t (fails-exactly .1 f),
       λ h. not-T (fails r n) λ t. passes-none r d .1 h (fails-exactly .0 t),
     )
-
-    -- and then no line is cut differently.
-    pub test-alike : T (not (fails r n)) → (w : List ℕ) → Below 256 w → greedy r w ≡ posix r w
-    test-alike t = same-spans r d (test-exactly .0 t)
 
     -- One or the other.
     pub none-or-some : NoneExtends r ⊎ ((u : List ℕ) × (b : ℕ) × (v : List ℕ) × Extends r u b v)

@@ -7,7 +7,7 @@ use mathlib.Core.List.{List, []}
 use native.Mathlib.Omega.{arith}
 use native.Mathlib.Decide.{decLt, ℕ-discrete}
 use lib.ListN.{length, take, drop}
-use Rattle.theory.specs.Pattern.{Re}
+use Rattle.theory.specs.Pattern.{Re, Numbered}
 use Rattle.theory.specs.Spans.{Span-discrete, greedy, posix}
 use Rattle.theory.specs.Lines.{Below}
 use Rattle.theory.specs.Base.{Plain}
@@ -20,7 +20,6 @@ use Rattle.grammar.specs.Grammar.{Alternation}
 use Rattle.grammar.specs.Limits.{Reads}
 use Rattle.grammar.specs.Refusals.{Fault}
 use Rattle.grammar.specs.WriteOut.{writeOut}
-use Rattle.grammar.proofs.Right.{unambiguous, not-both}
 use Rattle.grammar.proofs.Size.{writeOut-numbered}
 use Rattle.verdict.specs.Record.{formOf}
 use Rattle.verdict.specs.Table.{slots}
@@ -32,7 +31,6 @@ use Rattle.verdict.proofs.Tabled.{tabled-some}
 use Rattle.verdict.proofs.Area.{cleared-length, cleared-bytes}
 use Rattle.verdict.proofs.Checked.{passes-or-fails, checked-one, checked-is}
 use Rattle.verdict.proofs.One.{result, table, witness}
-use Rattle.verdict.proofs.Promise.{fault-number}
 use Rattle.verdict.proofs.ByTable.{RefusedInTable, tabled-numbers, tabled-alike, tabled-unlike, tabled-ten, tabled-eleven, tabled-room, tabled-withheld, tabled-lengths, tabled-bytes}
 
 -- NO LINE IS CUT DIFFERENTLY exactly if the pattern, a plain one, is robust by source 000's Definition 4.
@@ -41,6 +39,10 @@ none-robust r d = (
   λ f. robust 256 r d .1 λ w b. elim (Span-discrete ℕ-discrete (greedy r w) (posix r w)) [ yes e ↦ e | no e ↦ absurd (f w b e) ],
   λ h w b c. c (robust 256 r d .0 h w b),
 )
+
+-- SOURCE 000, PROPOSITION 30: a pattern, a plain one, is robust if it is end-unambiguous, that is, if no matched string extends to a longer matched one.
+pub unambiguous-robust : (r : Re) → Numbered 0 r → Plain r → NoneExtends r → Robust 256 r
+unambiguous-robust r n d h = none-robust r d .0 (none-cut r n h)
 
 -- It is refused with that number at place 0.
 abbrev pub RefusedBy : List ℕ → List ℕ → List ℕ → List ℕ → ℕ → Type 0

@@ -6,17 +6,17 @@ use Rattle.checker.proofs.decide.Statement.{statement}
 use Rattle.checker.proofs.decide.Tie as tie
 
 by-records-requires : tie.Need-by-records-requires
-by-records-requires c κs = decides-known (c .before .before .before .before .before .before .before .before .before .before .before .before .before .before .before .before .before .before .before .before .before .before .before .before .before .before .pre) (c .before .before .before .before .before .before .before .before .before .before .before .before .before .before .before .before .before .before .before .before .before .tables-of .ensures) (c .before .before .before .before .before .before .before .before .before .width .ensures)
+by-records-requires c κs = decides-known (c .before .before .before .before .before .before .before .before .before .before .before .before .before .before .before .before .before .before .before .before .before .before .before .before .before .before .pre) (c .before .before .before .before .before .before .before .before .before .before .before .before .before .before .before .before .before .before .before .before .tables-of .ensures) (c .before .before .before .before .before .before .before .before .before .before .before .before .before .before .before .before .before .before .before .before .before .width .ensures)
 
 returns : tie.Need-returns
 returns c = decides-short (c .no-looking .ensures) (rw (c .before .enum-told .given .1) at (c .before .before .before .before .before .test .ensures))
 
 returns-2 : tie.Need-returns-2
-returns-2 c = decides-passes (c .before .before .before .before .before .before .before .before .before .before .before .before .before .before .before .before .before .pre) (c .before .before .before .before .before .before .before .before .before .before .before .before .tables-of .ensures) (c .no-looking2 .ensures) (rw (c .before .enum-told2 .given .1) at (c .before .before .before .before .before .test .ensures))
+returns-2 c = decides-passes (c .before .before .before .before .before .before .before .before .before .before .before .before .before .before .before .before .before .before .pre) (c .before .before .before .before .before .before .before .before .before .before .before .before .tables-of .ensures) (c .no-looking2 .ensures) (rw (c .before .enum-told2 .given .1) at (c .before .before .before .before .before .test .ensures))
 
 returns-3 : tie.Need-returns-3
 returns-3 c =
-    decides-fails (c .before .before .before .before .before .before .before .before .before .before .before .before .before .before .before .before .before .before .before .before .before .before .before .before .before .before .before .before .before .before .before .pre) (c .before .before .before .before .before .before .before .before .before .before .before .before .before .before .before .before .before .before .before .before .before .before .before .before .before .before .tables-of .ensures) (c .before .before .before .before .before .before .before .before .before .before .before .before .before .before .width .ensures) (rw (c .before .before .before .before .before .before .before .before .before .before .before .before .before .before .before .enum-told3 .given .1) at (c .before .before .before .before .before .before .before .before .before .before .before .before .before .before .before .before .before .before .before .test .ensures)) (c .before .before .before .before .by-records .ensures)
+    decides-fails (c .before .before .before .before .before .before .before .before .before .before .before .before .before .before .before .before .before .before .before .before .before .before .before .before .before .before .before .before .before .before .before .pre) (c .before .before .before .before .before .before .before .before .before .before .before .before .before .before .before .before .before .before .before .before .before .before .before .before .before .tables-of .ensures) (c .before .before .before .before .before .before .before .before .before .before .before .before .before .before .before .before .before .before .before .before .before .before .before .before .before .before .width .ensures) (rw (c .before .before .before .before .before .before .before .before .before .before .before .before .before .before .enum-told3 .given .1) at (c .before .before .before .before .before .before .before .before .before .before .before .before .before .before .before .before .before .before .test .ensures)) (c .before .before .before .before .by-records .ensures)
 
 pub decide-spec : {M : Type 1} → statement M
 decide-spec =
@@ -24,12 +24,12 @@ decide-spec =
     (tie.spec
     (λ c κs. search needs)
     (λ c κs. search needs)
-    (λ c. search needs)
     (λ c κs. search needs)
     (λ c. search needs)
     (λ c κs. search needs)
     (λ c. search needs)
     (λ c κs. search needs)
+    (λ c. search needs)
     by-records-requires
     (λ c. search needs)
     returns
