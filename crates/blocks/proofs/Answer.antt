@@ -7,28 +7,20 @@ use mathlib.Core.Bool.{Bool, true, false, not, cond, true≢false}
 use mathlib.Core.List.{List, [], _∷_, _++_, append-nil}
 use mathlib.Core.Option.{Option, none, some}
 use native.Mathlib.Omega.{arith}
-use lib.Dec.{T, eqb}
+use lib.Dec.{T}
 use Rattle.theory.specs.Pattern.{Re, count}
 use Rattle.theory.specs.Spans.{Span, nowhere, span, spanOr}
 use Rattle.theory.specs.Standing.{wanted, member, filter, setOf, from}
 use Rattle.theory.specs.Code.Follow.{hasEnd, after}
 use Rattle.theory.specs.Code.Next.{afters}
 use Rattle.theory.specs.Code.Members.{any}
-use Rattle.theory.proofs.Tests.{T-true, true-T, same-test, or-left, or-right, or-cases, either}
-use Rattle.theory.proofs.Members.{any-found, any-of, Within, member-append, filter-of, filter-passes}
+use Rattle.theory.proofs.Tests.{T-true, true-T, same-test, or-left, or-cases, either}
+use Rattle.theory.proofs.Members.{any-found, any-of, Within, member-append, filter-of, filter-passes, filter-in}
 use Rattle.theory.proofs.Step.{afters-member, afters-end}
 use Rattle.blocks.specs.Blocks.{Block, State, carried, keep, onto, carry, opening, step}
 use Rattle.blocks.specs.Answer.{orElse, lastEnd, firstOf, later, unless, answer}
 
 -- Sets.
-pub filter-in : (f : ℕ → Bool) (l : List ℕ) → Within (filter f l) l
-filter-in f [] p t = t
-filter-in f (q ∷ l) p t = go (f q) (filter-in f l p) t
-  where
-    go : (c : Bool) → (T (member p (filter f l)) → T (member p l)) → T (member p (cond c (q ∷ filter f l) (filter f l))) → T (member p (q ∷ l))
-    go true below t = either (λ e. or-left (eqb p q) (member p l) e) (λ m. or-right (eqb p q) (member p l) (below m)) (or-cases (eqb p q) (member p (filter f l)) t)
-    go false below t = or-right (eqb p q) (member p l) (below t)
-
 some-not-none : {k : ℕ} → some k ≡ none → ⊥
 some-not-none e = let w : _≡_ {A = ℕ} 0 1 = ap (elim [ none ↦ 1 | some k ↦ 0 ]) e in omega arith
 

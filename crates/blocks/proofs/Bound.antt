@@ -1,24 +1,22 @@
 -- There are no more blocks than the pattern has leaves: their sets are not empty, and no leaf is in two.
 -- Assumes nothing.
 use mathlib.Core.Path.{_≡_, refl}
-use mathlib.Core.Logic.{_⊎_, inl, inr}
-use Prim.Native.Nat.{ℕ, zero, suc, _+_, _≤_, _<_}
+use Prim.Native.Nat.{ℕ, suc, _+_, _≤_, _<_}
 use mathlib.Core.Bool.{Bool, true, false, not, cond}
 use mathlib.Core.List.{List, [], _∷_, _++_, append-nil}
 use native.Mathlib.Omega.{arith}
 use lib.ListN.{length, length-append}
-use lib.Dec.{T, eqb, eqb→eq, eqb-refl}
+use lib.Dec.{T, eqb, eqb-refl}
 use Rattle.theory.specs.Pattern.{Re, count}
-use Rattle.theory.specs.Standing.{wanted, member, from, filter, setOf}
+use Rattle.theory.specs.Standing.{wanted, member, from, setOf}
 use Rattle.theory.specs.Spans.{Span, span}
 use Rattle.theory.specs.Code.Follow.{hasEnd}
 use Rattle.theory.specs.Code.Next.{afters}
 use Rattle.theory.specs.Code.Members.{Once, nil, cons}
 use Rattle.theory.proofs.Tests.{T-true, or-left, or-right, or-cases, either}
-use Rattle.theory.proofs.Members.{member-append, filter-passes, member-from, length-from, once-size}
+use Rattle.theory.proofs.Members.{member-append, filter-in, filter-passes, member-from, from-range, length-from, once-from, once-filter, once-size}
 use Rattle.blocks.specs.Blocks.{Block, State, carried, keep, onto, carry, opening, step}
 use Rattle.blocks.specs.Invariants.{leavesOf, Full, Apart}
-use Rattle.blocks.proofs.Answer.{filter-in}
 
 -- Lists that have each number once.
 once-append : {l m : List ℕ} → Once l → Once m → ((p : ℕ) → T (member p l) → T (member p m) → ⊥) → Once (l ++ m)
@@ -27,26 +25,6 @@ once-append {m = m} (cons {p = p} {l = l} a u) o h =
     cons {p = p} {l = l ++ m}
     (λ t. either a (λ c. h p (or-left (eqb p p) (member p l) (eqb-refl p)) c) (or-cases (member p l) (member p m) (rw (member-append p l m) at t)))
     (once-append u o (λ q t c. h q (or-right (eqb q p) (member q l) t) c))
-
-once-filter : (f : ℕ → Bool) {l : List ℕ} → Once l → Once (filter f l)
-once-filter f nil = nil
-once-filter f (cons {p = p} {l = l} a o) = go (f p) (once-filter f o)
-  where
-    go : (c : Bool) → Once (filter f l) → Once (cond c (p ∷ filter f l) (filter f l))
-    go true u = cons (λ t. a (filter-in f l p t)) u
-    go false u = u
-
-from-range : (p n d : ℕ) → T (member p (from n d)) → (n ≤ p) × (p < n + d)
-from-range p n zero t = absurd t
-from-range p n (suc d) t = go (from-range p (suc n) d) (or-cases (eqb p n) (member p (from (suc n) d)) t)
-  where
-    go : (T (member p (from (suc n) d)) → (suc n ≤ p) × (p < suc n + d)) → T (eqb p n) ⊎ T (member p (from (suc n) d)) → (n ≤ p) × (p < n + suc d)
-    go below (inl e) = let c = eqb→eq p n e in (omega arith, omega arith)
-    go below (inr m) = let c = below m in (omega arith, omega arith)
-
-once-from : (n d : ℕ) → Once (from n d)
-once-from n zero = nil
-once-from n (suc d) = cons {p = n} {l = from (suc n) d} (λ t. let c = from-range n (suc n) d t in omega arith) (once-from (suc n) d)
 
 module _ (r : Re) where
   set-once : (l : List ℕ) → Once (setOf r l)

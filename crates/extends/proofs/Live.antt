@@ -14,11 +14,11 @@ use Rattle.theory.specs.Standing.{wanted, member, from}
 use Rattle.theory.specs.Code.Members.{any, Once, nil, cons}
 use Rattle.theory.specs.Code.Follow.{Next, follow, hasEnd}
 use Rattle.theory.proofs.Tests.{T-true, true-T, or-left, or-right, or-cases, and-split, and-join, either}
-use Rattle.theory.proofs.Members.{Within, any-found, any-of, member-from, length-from, once-size}
+use Rattle.theory.proofs.Members.{Within, any-found, any-of, member-from, length-from, once-size, from-range, filter-in, once-from, once-filter}
 use Rattle.theory.proofs.Extend.{has-beyond}
 use Rattle.extends.specs.Code.Pairs.{Takes, Share, Live, last, onward}
 use Rattle.extends.specs.Code.Test.{meets, leads, takes, share, rounds, live}
-use Rattle.extends.proofs.Lists.{T-stable, from-below, filter-within, passing, once-from, once-filter}
+use Rattle.extends.proofs.Lists.{T-stable, passing}
 
 -- A list meets a set where it has a number of it.
 pub meets-found : (l set : List ℕ) → T (meets l set) → (p : ℕ) × T (member p l) × T (member p set)
@@ -37,7 +37,7 @@ module _ (r : Re) where
   pub takes-exactly : (p : ℕ) → T (takes r p) ↔ Takes r p
   unfolding takes
   takes-exactly p = (
-    λ t. let (b, m, h) = any-found (has r p) (from 0 256) t in (b, let c = from-below b 0 256 m in omega arith, h),
+    λ t. let (b, m, h) = any-found (has r p) (from 0 256) t in (b, let c = from-range b 0 256 m in omega arith, h),
     λ (b, l, h). any-of (has r p) (from 0 256) b (member-from b 0 256 (omega arith) (omega arith)) h,
   )
 
@@ -46,7 +46,7 @@ module _ (r : Re) where
   share-exactly p q = (
     λ t. let (b, m, h) = any-found (λ b. has r p b && has r q b) (from 0 256) t in
         let (x, y) = and-split (has r p b) (has r q b) h in
-        (b, let c = from-below b 0 256 m in omega arith, x, y),
+        (b, let c = from-range b 0 256 m in omega arith, x, y),
     λ (b, l, x, y). any-of (λ b. has r p b && has r q b) (from 0 256) b (member-from b 0 256 (omega arith) (omega arith)) (and-join (has r p b) (has r q b) x y),
   )
 
@@ -78,7 +78,7 @@ module _ (r : Re) where
   round-within : (k : ℕ) → Within (rounds r k) (from 0 (count r))
   unfolding rounds
   round-within zero = λ p t. absurd t
-  round-within (suc k) = filter-within (λ q. takes r q && leads (follow r q) (rounds r k)) (from 0 (count r))
+  round-within (suc k) = filter-in (λ q. takes r q && leads (follow r q) (rounds r k)) (from 0 (count r))
 
   -- A list that has more than the rounds so far is longer.
   longer : (k p : ℕ) (m : List ℕ) → Within (rounds r k) m → T (member p m) → (T (member p (rounds r k)) → ⊥) → length (rounds r k) < length m

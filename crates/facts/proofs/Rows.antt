@@ -18,7 +18,7 @@ use Rattle.theory.specs.Code.Closure.{items}
 use Rattle.theory.specs.Code.Next.{afters}
 use Rattle.theory.specs.Code.Members.{any}
 use Rattle.theory.proofs.Tests.{T-true, not-true, and-false}
-use Rattle.theory.proofs.Members.{gather-member, any-found, any-of, filter-passes}
+use Rattle.theory.proofs.Members.{gather-member, any-found, any-of, filter-passes, from-range}
 use Rattle.theory.proofs.Equations.{all-when}
 use Rattle.theory.proofs.Extend.{leaf-range}
 use Rattle.theory.proofs.Nexts.{follow-all}
@@ -29,7 +29,7 @@ use Rattle.words.proofs.Bits.{and-bit, no-bit}
 use Rattle.follow.specs.declared.Tables.{Tables}
 use Rattle.follow.specs.Rows.{row, Summed}
 use Rattle.standing.specs.Stands.{Arrays, Lent}
-use Rattle.standing.proofs.Sets.{any-cut, any-filter, any-ext, filter-cut, from-below}
+use Rattle.standing.proofs.Sets.{any-cut, any-filter, any-ext, filter-cut}
 use Rattle.facts.specs.Moves.{Moves}
 use Rattle.facts.specs.Sets.{leavesIn, Wants, Endings, Takes}
 use Rattle.facts.proofs.Bits.{some-bit}
@@ -44,7 +44,7 @@ leaf-in c x p m = (below, T-true (hasBit x p) (filter-passes (hasBit x) (from 0 
     below : p < c
     below =
         let (q, i, t) = any-found (λ q. hasBit x q && eqb p q) (from 0 c) (rw any-filter at (any-of (eqb p) (leavesIn c x) p m (eqb-refl p))) in
-        omega (arith, from-below q 0 c i, eqb→eq p q (second (hasBit x q) (eqb p q) t))
+        omega (arith, from-range q 0 c i, eqb→eq p q (second (hasBit x q) (eqb p q) t))
 
 pub carried-leaves : {r : Re} {b : ℕ} {l : List ℕ} {took to ending : ℕ} → Takes r b l took to ending → leavesIn (count r) to ≡ setOf r (wanted (afters r b l))
 carried-leaves {r} {b} {l} {to = to} t = filter-cut (hasBit to) (λ p. member p (wanted (afters r b l))) 0 (count r) λ p h. t .leaves p (omega arith)

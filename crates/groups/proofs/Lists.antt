@@ -10,26 +10,14 @@ use lib.Dec.{T, eqb, eqb→eq, eqb-refl}
 use Rattle.theory.specs.Standing.{member, from, filter}
 use Rattle.theory.specs.Code.Members.{any}
 use Rattle.theory.proofs.Tests.{T-true, true-T, or-left, or-right, or-cases, either}
+use Rattle.theory.proofs.Members.{from-range, filter-in}
 use Rattle.groups.specs.Numbers.{placeOf}
 use Rattle.groups.specs.Readable.{firstOr}
-
-pub from-range : (p n d : ℕ) → T (member p (from n d)) → (n ≤ p) × (p < n + d)
-from-range p n zero t = absurd t
-from-range p n (suc d) t =
-    either (λ e. let h = eqb→eq p n e in omega arith) (λ m. let h = from-range p (suc n) d m in omega arith) (or-cases (eqb p n) (member p (from (suc n) d)) t)
 
 pub getD-from : (n d k : ℕ) → k < d → getD (from n d) k 0 ≡ n + k
 getD-from n zero k h = absurd (omega arith)
 getD-from n (suc d) zero h = omega arith
 getD-from n (suc d) (suc k) h = let e : suc n + k ≡ n + suc k = omega arith in getD-from (suc n) d k (omega arith) ∙ e
-
-pub filter-in : (f : ℕ → Bool) (l : List ℕ) (p : ℕ) → T (member p (filter f l)) → T (member p l)
-filter-in f [] p m = m
-filter-in f (q ∷ l) p m = go (f q) (filter-in f l p) m
-  where
-    go : (c : Bool) → (T (member p (filter f l)) → T (member p l)) → T (member p (cond c (q ∷ filter f l) (filter f l))) → T (member p (q ∷ l))
-    go true below m = either (or-left (eqb p q) (member p l)) (λ t. or-right (eqb p q) (member p l) (below t)) (or-cases (eqb p q) (member p (filter f l)) m)
-    go false below m = or-right (eqb p q) (member p l) (below m)
 
 -- Two functions agree on the numbers of a list.
 abbrev pub Agree : {A : Type 0} → (ℕ → A) → (ℕ → A) → List ℕ → Type 0

@@ -13,10 +13,10 @@ use Rattle.theory.specs.Pattern.{Re, count, has, SameGroup}
 use Rattle.theory.specs.Standing.{member, from, filter}
 use Rattle.theory.specs.Code.Members.{any}
 use Rattle.theory.proofs.Tests.{T-true, true-T, not-true, same-test}
-use Rattle.theory.proofs.Members.{any-found, any-of, filter-of, filter-passes, member-from, length-from, map-from, from-append, from-snoc, filter-append, filter-size}
+use Rattle.theory.proofs.Members.{any-found, any-of, filter-of, filter-passes, member-from, length-from, map-from, from-append, from-snoc, filter-append, filter-size, from-range, filter-in}
 use Rattle.groups.specs.declared.Groups.{Groups}
 use Rattle.groups.specs.Numbers.{shares, placeOf, isLowest, lowestBelow, lowestBytes, numberOf, numbers, groupsBy, groupsOf}
-use Rattle.groups.proofs.Lists.{from-range, filter-in, Agree, any-agree, filter-agree, place-agree, map-agree, place-passes, member-place, place-member, chosen-upwards}
+use Rattle.groups.proofs.Lists.{Agree, any-agree, filter-agree, place-agree, map-agree, place-passes, member-place, place-member, chosen-upwards}
 
 -- To share a group is an equivalence.
 pub record Equivalence (share : ℕ → ℕ → Bool) : Type 0 where

@@ -12,12 +12,12 @@ use Rattle.theory.specs.Pattern.{Re, Numbered, SameGroup}
 use Rattle.theory.specs.Spans.{greedy, posix, CutDifferently}
 use Rattle.theory.specs.Standing.{member, from}
 use Rattle.theory.proofs.Tests.{true-T, or-cases, either, same-test}
-use Rattle.theory.proofs.Members.{member-append}
+use Rattle.theory.proofs.Members.{member-append, from-range}
 use Rattle.theory.proofs.Groups.{regroup-greedy, regroup-posix, regroup-cut}
 use Rattle.groups.specs.Numbers.{shares, numbers}
 use Rattle.groups.specs.Readable.{isPrintable, printables, firstOr, readableBy, readable}
 use Rattle.groups.specs.Turns.{same}
-use Rattle.groups.proofs.Lists.{from-range, getD-from, first-agree}
+use Rattle.groups.proofs.Lists.{getD-from, first-agree}
 use Rattle.groups.proofs.Numbers.{shares-is, groups-share}
 use Rattle.groups.proofs.Turns.{alike-same}
 

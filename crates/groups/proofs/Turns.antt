@@ -11,11 +11,11 @@ use lib.Dec.{T, eqb, eqb→eq, eqb-refl}
 use Rattle.theory.specs.Standing.{from}
 use Rattle.theory.specs.Code.Members.{any}
 use Rattle.theory.proofs.Tests.{T-true, true-T, not-true}
-use Rattle.theory.proofs.Members.{any-found, any-of, member-from, length-from, map-from}
+use Rattle.theory.proofs.Members.{any-found, any-of, member-from, length-from, map-from, from-range, filter-in}
 use Rattle.groups.specs.declared.Groups.{Groups}
 use Rattle.groups.specs.Numbers.{placeOf, isLowest, lowestBelow, lowestBytes, numberOf, numbers, groupsBy}
 use Rattle.groups.specs.Turns.{same, GroupedTo}
-use Rattle.groups.proofs.Lists.{from-range, filter-in, place-here, place-agree}
+use Rattle.groups.proofs.Lists.{place-here, place-agree}
 use Rattle.groups.proofs.Numbers.{Equivalence, next-byte, next-lowest, lowest-split, shared-alike}
 
 pub same-equivalence : (a : List ℕ) → Equivalence (same a)

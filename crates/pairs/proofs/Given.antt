@@ -16,7 +16,7 @@ use Rattle.theory.specs.Standing.{wanted, member, from}
 use Rattle.theory.specs.Code.Members.{any}
 use Rattle.theory.specs.Code.Follow.{start, follow, hasEnd}
 use Rattle.theory.proofs.Tests.{not-true, and-split, and-join}
-use Rattle.theory.proofs.Members.{any-found, any-of, member-from}
+use Rattle.theory.proofs.Members.{any-found, any-of, member-from, from-range}
 use Rattle.theory.proofs.Extend.{has-beyond}
 use Rattle.extends.specs.Code.Pairs.{Takes, Live, FailsEmpty}
 use Rattle.extends.specs.Code.Test.{share}
@@ -24,7 +24,6 @@ use Rattle.extends.proofs.Live.{share-exactly, takes-below}
 use Rattle.words.specs.Sets.{hasBit}
 use Rattle.words.proofs.Bits.{and-bit}
 use Rattle.standing.specs.Stands.{arrays, Lent}
-use Rattle.standing.proofs.Sets.{from-below}
 use Rattle.facts.specs.Sets.{Endings}
 use Rattle.facts.proofs.Bits.{some-bit}
 use Rattle.facts.proofs.Rows.{leaf-wants, leaf-end, first-wants, empty-line}
@@ -34,7 +33,7 @@ use Rattle.pairs.specs.Steps.{Of}
 -- A test that passes at some number below n.
 pub any-below : (f : ℕ → Bool) (n : ℕ) → T (any f (from 0 n)) ↔ ((p : ℕ) × (p < n) × T (f p))
 any-below f n = (
-  λ t. let (p, m, u) = any-found f (from 0 n) t in (p, let c = from-below p 0 n m in omega arith, u),
+  λ t. let (p, m, u) = any-found f (from 0 n) t in (p, let c = from-range p 0 n m in omega arith, u),
   λ (p, h, u). any-of f (from 0 n) p (member-from p 0 n (omega arith) (omega arith)) u,
 )
 

@@ -1,7 +1,7 @@
 -- What is packed is the standing's record, and what is unpacked from a record is its standing.
 -- Assumes nothing.
 use mathlib.Core.Path.{_≡_, refl, sym, ap, _∙_, subst}
-use mathlib.Core.Bool.{Bool, true, false, cond}
+use mathlib.Core.Bool.{Bool, true, false}
 use mathlib.Core.List.{List, [], _∷_, _++_}
 use Prim.Native.Nat.{ℕ, _+_, _*_, _/_, _%_, _≤_, _<_, min}
 use native.Mathlib.Nat.{zero-add, mod-eq-of-lt, min-eq-left}
@@ -9,12 +9,12 @@ use native.Mathlib.Omega.{arith}
 use native.Mathlib.Decide.{decLt}
 use lib.ListN.{length, getD, take, drop, replicate}
 use lib.Seq.{sets, length-take-le}
-use lib.Dec.{T, eqb}
+use lib.Dec.{eqb}
 use Rattle.theory.specs.Pattern.{Re, count, Numbered}
 use Rattle.theory.specs.Standing.{member, from, filter, standing}
 use Rattle.theory.specs.Standing as Theory
-use Rattle.theory.proofs.Tests.{not-true, same-test, or-left, or-right, or-cases, either}
-use Rattle.theory.proofs.Members.{Within, filter-of, filter-passes, member-from, length-from, once-size}
+use Rattle.theory.proofs.Tests.{not-true, same-test}
+use Rattle.theory.proofs.Members.{filter-of, filter-passes, member-from, length-from, once-size, from-range, filter-in}
 use Rattle.theory.proofs.Sizes.{order-once, order-below, order-size}
 use Rattle.words.specs.Sets.{hasBit}
 use Rattle.verdict.specs.Record.{formOf, wide, recordBytes}
@@ -24,7 +24,7 @@ use Rattle.verdict.proofs.Forms.{held-record}
 use Rattle.verdict.proofs.Injective.{below-by}
 use Rattle.standing.specs.declared.Standing.{Standing}
 use Rattle.standing.specs.Stands.{means, Fine, Stands}
-use Rattle.standing.proofs.Sets.{from-below, filter-cut}
+use Rattle.standing.proofs.Sets.{filter-cut}
 use Rattle.records.specs.Packing.{Packed, Unpacked}
 use Rattle.records.specs.Bytes.{one, bytesOf, setOf, threes, fours}
 use Rattle.records.proofs.Sets.{bit-one, one-less, bytes-right, set-right, set-few}
@@ -39,19 +39,11 @@ put-all : (a b o p q : ℕ) (l m : List ℕ)
 put-all a b o p q l m = refl
 
 -- The leaves of a set below c.
-filter-within : (f : ℕ → Bool) (l : List ℕ) → Within (filter f l) l
-filter-within f [] p t = t
-filter-within f (q ∷ l) p t = go (f q) (filter-within f l p) t
-  where
-    go : (c : Bool) → (T (member p (filter f l)) → T (member p l)) → T (member p (cond c (q ∷ filter f l) (filter f l))) → T (member p (q ∷ l))
-    go true below t = either (or-left (eqb p q) (member p l)) (λ i. or-right (eqb p q) (member p l) (below i)) (or-cases (eqb p q) (member p (filter f l)) t)
-    go false below t = or-right (eqb p q) (member p l) (below t)
-
 filter-below : (f : ℕ → Bool) (c p : ℕ) → p < c → member p (filter f (from 0 c)) ≡ f p
 filter-below f c p h = same-test (member p (filter f (from 0 c))) (f p) (filter-passes f (from 0 c) p) (λ t. filter-of f (from 0 c) p t (member-from p 0 c (omega arith) (omega arith)))
 
 filter-above : (f : ℕ → Bool) (c p : ℕ) → c ≤ p → member p (filter f (from 0 c)) ≡ false
-filter-above f c p h = not-true (member p (filter f (from 0 c))) λ t. omega (arith, from-below p 0 c (filter-within f (from 0 c) p t))
+filter-above f c p h = not-true (member p (filter f (from 0 c))) λ t. omega (arith, from-range p 0 c (filter-in f (from 0 c) p t))
 
 -- The record, from the fields as the code puts them in.
 abbrev given : Standing → ℕ → ℕ → List ℕ

@@ -8,29 +8,25 @@ use native.Mathlib.Omega.{arith}
 use native.Mathlib.Decide.{decLt}
 use native.Mathlib.Numerals.{add-one}
 use lib.ListN.{getD}
-use lib.Dec.{T, eqb, eqb→eq}
+use lib.Dec.{T, eqb}
 use lib.Bits.{bitOr}
 use Rattle.theory.specs.Standing.{member, from, filter}
 use Rattle.theory.specs.Code.Closure.{flat}
 use borrow.Author.Tests.{eqb-true}
 use Rattle.theory.proofs.Tests.{T-true, same-test, or-left, or-right, or-cases, or-assoc, or-false, either, and-true}
 use Rattle.theory.specs.Code.Members.{any}
-use Rattle.theory.proofs.Members.{any-found, any-of, member-append, member-from}
+use Rattle.theory.proofs.Members.{any-found, any-of, member-append, member-from, from-range}
 use Rattle.words.specs.Sets.{hasBit, Parted}
 use Rattle.standing.specs.declared.Wants.{Wants}
 use Rattle.standing.specs.Sets.{Small, wants, ends, Joined, Wanted}
 use Rattle.words.proofs.Bits.{no-bit, or-bit, no-more}
-
-pub from-below : (p n d : ℕ) → T (member p (from n d)) → p < n + d
-from-below p n zero t = absurd t
-from-below p n (suc d) t = either (λ e. omega (arith, eqb→eq p n e)) (λ i. omega (arith, from-below p (suc n) d i)) (or-cases (eqb p n) (member p (from (suc n) d)) t)
 
 -- Two tests that agree below c, of which the first passes at none of the others.
 pub any-cut : (f g : ℕ → Bool) (c d : ℕ) → c ≤ d → ((p : ℕ) → p < c → f p ≡ g p) → ((p : ℕ) → c ≤ p → f p ≡ false) → any f (from 0 d) ≡ any g (from 0 c)
 any-cut f g c d h same rest =
     same-test (any f (from 0 d)) (any g (from 0 c))
     (λ t. let (p, m, u) = any-found f (from 0 d) t in into p u (decLt p c))
-    (λ t. let (p, m, u) = any-found g (from 0 c) t in let k = from-below p 0 c m in any-of f (from 0 d) p (member-from p 0 d (omega arith) (omega arith)) (rw (same p (omega arith)) u))
+    (λ t. let (p, m, u) = any-found g (from 0 c) t in let k = from-range p 0 c m in any-of f (from 0 d) p (member-from p 0 d (omega arith) (omega arith)) (rw (same p (omega arith)) u))
   where
     into : (p : ℕ) → T (f p) → Dec (p < c) → T (any g (from 0 c))
     into p u (yes k) = any-of g (from 0 c) p (member-from p 0 c (omega arith) (omega arith)) (rw (same p k) at u)

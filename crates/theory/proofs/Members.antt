@@ -78,6 +78,14 @@ filter-of f (q ∷ l) p t m = go (f q) refl (filter-of f l p t) (or-cases (eqb p
     go false e below (inl m) = absurd (rw (eqb→eq p q m, e) at t)
     go false e below (inr m) = below m
 
+pub filter-in : (f : ℕ → Bool) (l : List ℕ) → Within (filter f l) l
+filter-in f [] p m = m
+filter-in f (q ∷ l) p m = go (f q) (filter-in f l p) m
+  where
+    go : (c : Bool) → (T (member p (filter f l)) → T (member p l)) → T (member p (cond c (q ∷ filter f l) (filter f l))) → T (member p (q ∷ l))
+    go true below m = either (or-left (eqb p q) (member p l)) (λ t. or-right (eqb p q) (member p l) (below t)) (or-cases (eqb p q) (member p (filter f l)) m)
+    go false below m = or-right (eqb p q) (member p l) (below m)
+
 pub filter-passes : (f : ℕ → Bool) (l : List ℕ) (p : ℕ) → T (member p (filter f l)) → T (f p)
 filter-passes f [] p m = absurd m
 filter-passes f (q ∷ l) p m = go (f q) refl (filter-passes f l p) m
@@ -97,6 +105,11 @@ member-from p n (suc d) g h =
       | yes e ↦ or-left (eqb p n) (member p (from (suc n) d)) (rw e (eqb-refl n))
       | no e ↦ or-right (eqb p n) (member p (from (suc n) d)) (member-from p (suc n) d (omega arith) (omega arith))
     ]
+
+pub from-range : (p n d : ℕ) → T (member p (from n d)) → (n ≤ p) × (p < n + d)
+from-range p n zero t = absurd t
+from-range p n (suc d) t =
+    either (λ e. let h = eqb→eq p n e in omega arith) (λ m. let h = from-range p (suc n) d m in omega arith) (or-cases (eqb p n) (member p (from (suc n) d)) t)
 
 pub length-from : (n d : ℕ) → length (from n d) ≡ d
 length-from n zero = refl
@@ -132,6 +145,18 @@ filter-size f (p ∷ l) = go (f p) (filter-size f l)
     go : (b : Bool) → length (filter f l) ≤ length l → length (cond b (p ∷ filter f l) (filter f l)) ≤ suc (length l)
     go true s = omega arith
     go false s = omega arith
+
+pub once-from : (n d : ℕ) → Once (from n d)
+once-from n zero = nil
+once-from n (suc d) = cons {p = n} {l = from (suc n) d} (λ t. let c = from-range n (suc n) d t in omega arith) (once-from (suc n) d)
+
+pub once-filter : (f : ℕ → Bool) {l : List ℕ} → Once l → Once (filter f l)
+once-filter f nil = nil
+once-filter f (cons {p = p} {l = l} a o) = go (f p) (once-filter f o)
+  where
+    go : (c : Bool) → Once (filter f l) → Once (cond c (p ∷ filter f l) (filter f l))
+    go true u = cons (λ t. a (filter-in f l p t)) u
+    go false u = u
 
 once-snoc : {l : List ℕ} (p : ℕ) → Once l → (T (member p l) → ⊥) → Once (l ++ (p ∷ []))
 once-snoc p nil h = cons (λ t. t) nil
