@@ -27,7 +27,7 @@ pub record Of (r : Re) (shares sets : List ℕ) (ending : ℕ) : Type 0 where
   pub ended : (p : ℕ) → p < count r → hasBit ending p ≡ hasEnd (follow r p)
   pub shared : (p q : ℕ) → p < 64 → q < 64 → hasBit (getD shares p 0) q ≡ share r p q
 
--- The answer `is` is right: true exactly if P.
+-- The answer is right: true exactly if P holds.
 abbrev pub Tells : Bool → Type 0 → Type 0
 Tells true P = P
 Tells false P = P → ⊥
