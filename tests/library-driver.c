@@ -11,6 +11,10 @@
 // is kept, 'kept' if all of it is, else 'changed'; and ' : guard bytes changed' if some are.
 // 'looking PATTERN TABLE WITNESS AREA' calls it with how much looking it takes: prints 'looks LOOKS comparisons COMPARISONS' and the result, and ' : not as yindorka_check' if
 // the outcome or a byte of the buffers is another than that call's.
+// 'leaves PATTERN' prints 'refused NUMBER PLACE' or 'accepted', and after ' : ' the bytes of each leaf's set in hex ('-' if it has none); and ' and changed' if a refused
+// pattern does not leave its tables as they are.
+// 'with SETS' before a call, SETS in hex, makes it the call with that table of named sets. 'sets SETS' checks a table: prints 'passes' or 'fails NUMBER PLACE'. 'fixed' prints
+// the fixed table in hex.
 #include <stdio.h>
 #include <stdlib.h>
 #include <string.h>
@@ -21,6 +25,11 @@
 #define TABLE_BYTE 0xAA
 #define WITNESS_BYTE 0xBB
 #define AREA_BYTE 0xCC
+
+// The table of named sets of the call, if it has one of its own.
+static const uint8_t *own_sets;
+static size_t own_sets_length;
+#define CALL(name, ...) (own_sets ? name##_with_sets(own_sets, own_sets_length, __VA_ARGS__) : name(__VA_ARGS__))
 
 // A lent buffer, between its guard bytes; at points to its own first byte, which is never null.
 typedef struct {
@@ -106,7 +115,7 @@ static size_t read_hex(const char *hex, uint8_t *bytes)
 static void print_fields(const uint8_t *pattern, size_t pattern_length, const uint8_t *line, size_t length)
 {
     static yindorka_field_tables tables;
-    yindorka_fields_refusal refusal = yindorka_read_fields(pattern, pattern_length, &tables);
+    yindorka_fields_refusal refusal = CALL(yindorka_read_fields, pattern, pattern_length, &tables);
     yindorka_field fields[8];
     size_t span[2];
 
@@ -137,7 +146,7 @@ static void print_groups(const uint8_t *pattern, size_t pattern_length)
     yindorka_groups_refusal refusal;
 
     memset(&t, TABLE_BYTE, sizeof t);
-    refusal = yindorka_read_groups(pattern, pattern_length, &t);
+    refusal = CALL(yindorka_read_groups, pattern, pattern_length, &t);
     if (refusal.number) {
         printf("refused %zu %zu", refusal.number, refusal.place);
         for (size_t b = 0; b < 256; b++)
@@ -169,7 +178,7 @@ static int groups(const char *pattern_hex)
 static int lengths(const char *pattern_hex)
 {
     uint8_t *pattern = room(strlen(pattern_hex) + 1);
-    yindorka_span_lengths x = yindorka_lengths(pattern, read_hex(pattern_hex, pattern));
+    yindorka_span_lengths x = CALL(yindorka_lengths, pattern, read_hex(pattern_hex, pattern));
 
     free(pattern);
     if (x.number)
@@ -189,7 +198,7 @@ static int lengths(const char *pattern_hex)
 static int record(const char *pattern_hex)
 {
     uint8_t *pattern = room(strlen(pattern_hex) + 1);
-    yindorka_record_size x = yindorka_record_bytes(pattern, read_hex(pattern_hex, pattern));
+    yindorka_record_size x = CALL(yindorka_record_bytes, pattern, read_hex(pattern_hex, pattern));
 
     free(pattern);
     if (x.number)
@@ -210,7 +219,7 @@ static int readable(const char *pattern_hex, const char *line_hex)
     yindorka_refusal refusal;
 
     memcpy(line.at, bytes, line_length);
-    refusal = yindorka_readable(pattern, length, line.at, line.length);
+    refusal = CALL(yindorka_readable, pattern, length, line.at, line.length);
     if (refusal.number)
         printf("refused %zu %zu", refusal.number, refusal.place);
     else
@@ -220,6 +229,66 @@ static int readable(const char *pattern_hex, const char *line_hex)
     give_back(line);
     free(pattern);
     free(bytes);
+    return 1;
+}
+
+// The first leaves, as many as have some byte; those after the last that has one are not seen.
+static void print_leaves(const yindorka_tables *t)
+{
+    uint64_t all = 0;
+
+    for (size_t b = 0; b < 256; b++)
+        all |= t->masks[b];
+    for (size_t p = 0; p < 64 && all >> p; p++) {
+        printf(" : ");
+        for (size_t b = 0; b < 256; b++)
+            if (t->masks[b] >> p & 1)
+                printf("%02zx", b);
+        if (!(all >> p & 1))
+            putchar('-');
+    }
+}
+
+static int leaves(const char *pattern_hex)
+{
+    static yindorka_tables tables, before;
+    uint8_t *pattern = room(strlen(pattern_hex) + 1);
+    yindorka_refusal refusal;
+
+    memset(&before, TABLE_BYTE, sizeof before);
+    tables = before;
+    refusal = CALL(yindorka_read, pattern, read_hex(pattern_hex, pattern), &tables);
+    if (refusal.number)
+        printf("refused %zu %zu%s", refusal.number, refusal.place, memcmp(&tables, &before, sizeof tables) ? " and changed" : "");
+    else
+        printf("accepted");
+    if (!refusal.number)
+        print_leaves(&tables);
+    putchar('\n');
+    free(pattern);
+    return 1;
+}
+
+static int check_sets(const char *sets_hex)
+{
+    uint8_t *sets = room(strlen(sets_hex) + 1);
+    yindorka_refusal refusal = yindorka_check_sets(sets, read_hex(sets_hex, sets));
+
+    free(sets);
+    if (refusal.number)
+        printf("fails %zu %zu\n", refusal.number, refusal.place);
+    else
+        puts(refusal.place ? "passes, with a place" : "passes");
+    return 1;
+}
+
+static int fixed_sets(void)
+{
+    uint8_t table[YINDORKA_SETS_SIZE];
+
+    yindorka_fixed_sets(table);
+    print_hex(table, sizeof table);
+    putchar('\n');
     return 1;
 }
 
@@ -263,7 +332,7 @@ static int check(char *pattern_hex, buffers lent)
 {
     uint8_t *pattern = room(strlen(pattern_hex) + 1);
     size_t length = read_hex(pattern_hex, pattern);
-    yindorka_outcome outcome = yindorka_check(pattern, length, lent.table.at, lent.table.length, lent.witness.at, lent.witness.length, lent.area.at, lent.area.length);
+    yindorka_outcome outcome = CALL(yindorka_check, pattern, length, lent.table.at, lent.table.length, lent.witness.at, lent.witness.length, lent.area.at, lent.area.length);
 
     print_result(outcome, lent.witness);
     print_buffer(lent.table);
@@ -283,8 +352,8 @@ static int looking(char *pattern_hex, buffers lent, buffers other)
 {
     uint8_t *pattern = room(strlen(pattern_hex) + 1);
     size_t length = read_hex(pattern_hex, pattern);
-    yindorka_looking x = yindorka_check_looking(pattern, length, lent.table.at, lent.table.length, lent.witness.at, lent.witness.length, lent.area.at, lent.area.length);
-    yindorka_outcome y = yindorka_check(pattern, length, other.table.at, other.table.length, other.witness.at, other.witness.length, other.area.at, other.area.length);
+    yindorka_looking x = CALL(yindorka_check_looking, pattern, length, lent.table.at, lent.table.length, lent.witness.at, lent.witness.length, lent.area.at, lent.area.length);
+    yindorka_outcome y = CALL(yindorka_check, pattern, length, other.table.at, other.table.length, other.witness.at, other.witness.length, other.area.at, other.area.length);
     int same = x.outcome.kind == y.kind && x.outcome.first == y.first && x.outcome.second == y.second;
 
     printf("looks %zu comparisons %zu ", x.looks, x.comparisons);
@@ -309,7 +378,7 @@ static int spans(const char *pattern_hex, const char *line_hex)
 {
     static yindorka_tables tables;
     uint8_t *pattern = room(strlen(pattern_hex) + 1), *line = room(strlen(line_hex) + 1);
-    yindorka_refusal refusal = yindorka_read(pattern, read_hex(pattern_hex, pattern), &tables);
+    yindorka_refusal refusal = CALL(yindorka_read, pattern, read_hex(pattern_hex, pattern), &tables);
     size_t places[3];
 
     if (refusal.number)
@@ -336,6 +405,14 @@ static int call_lending(const char *what, char *pattern_hex, const char *t, cons
 
 static int call_named(const char *what, char *first, char *second, const char *third, const char *fourth)
 {
+    if (strcmp(what, "fixed") == 0)
+        return fixed_sets();
+    if (!first)
+        return 0;
+    if (strcmp(what, "sets") == 0)
+        return check_sets(first);
+    if (strcmp(what, "leaves") == 0)
+        return leaves(first);
     if (strcmp(what, "groups") == 0)
         return groups(first);
     if (strcmp(what, "lengths") == 0)
@@ -355,15 +432,31 @@ static int call_named(const char *what, char *first, char *second, const char *t
     return call_lending(what, first, second, third, fourth);
 }
 
+// The word of the call, after the table that it is to be made with, if there is one.
+static char *load_sets(char *word)
+{
+    static uint8_t sets[65536];
+
+    own_sets = NULL;
+    if (!word || strcmp(word, "with") != 0)
+        return word;
+    word = strtok(NULL, " \n");
+    if (!word || strlen(word) > sizeof sets)
+        return NULL;
+    own_sets_length = read_hex(word, sets);
+    own_sets = sets;
+    return strtok(NULL, " \n");
+}
+
 int main(void)
 {
     char *line = NULL;
     size_t size = 0;
 
     while (getline(&line, &size, stdin) >= 0) {
-        char *what = strtok(line, " \n"), *first = strtok(NULL, " \n"), *second = strtok(NULL, " \n"), *third = strtok(NULL, " \n"), *fourth = strtok(NULL, " \n");
+        char *what = load_sets(strtok(line, " \n")), *first = strtok(NULL, " \n"), *second = strtok(NULL, " \n"), *third = strtok(NULL, " \n"), *fourth = strtok(NULL, " \n");
 
-        if (!first || !call_named(what, first, second, third, fourth))
+        if (!what || !call_named(what, first, second, third, fourth))
             return 2;
     }
     free(line);

@@ -1,6 +1,6 @@
 /* Reads a pattern from the command line, says whether the two readings can ever cut a line differently and how long a span can be, and cuts the
- * other words both ways.
- * Usage: example PATTERN LINE..   Built and run by examples/c/run. */
+ * other words both ways. With --latin1 the letters of the code page Latin-1 are letters, in [[:alpha:]] and the other named sets.
+ * Usage: example [--latin1] PATTERN LINE..   Built and run by examples/c/run. */
 #include <stdio.h>
 #include <string.h>
 #include "../../include/yindorka.h"
@@ -12,13 +12,49 @@ static uint8_t witness[5041];
 static uint8_t area[YINDORKA_AREA_SIZE];
 static yindorka_tables tables;
 
+/* A carrier's own named sets, or null: then those of the fixed table count, and the calls that do not end in _with_sets are enough. */
+static const uint8_t *sets;
+static uint8_t latin1[YINDORKA_SETS_SIZE];
+
+/* The fixed sets, and the letters from 0xC0 on; 0xD7 and 0xF7 are signs. */
+static void load_latin1(void)
+{
+    yindorka_fixed_sets(latin1);
+    for (unsigned b = 0xC0; b <= 0xFF; b++) {
+        latin1[b] = b == 0xD7 || b == 0xF7 ? YINDORKA_PUNCT : YINDORKA_ALPHA | YINDORKA_ALNUM | (b < 0xDF ? YINDORKA_UPPER : YINDORKA_LOWER);
+    }
+    sets = latin1;
+}
+
+static yindorka_outcome check(const uint8_t *pattern, size_t length)
+{
+    if (sets) {
+        return yindorka_check_with_sets(sets, YINDORKA_SETS_SIZE, pattern, length, table, sizeof table, witness, sizeof witness, area, sizeof area);
+    }
+    return yindorka_check(pattern, length, table, sizeof table, witness, sizeof witness, area, sizeof area);
+}
+
+static yindorka_refusal read_tables(const uint8_t *pattern, size_t length)
+{
+    return sets ? yindorka_read_with_sets(sets, YINDORKA_SETS_SIZE, pattern, length, &tables) : yindorka_read(pattern, length, &tables);
+}
+
+static void make_readable(const uint8_t *pattern, size_t length, size_t line_length)
+{
+    if (sets) {
+        yindorka_readable_with_sets(sets, YINDORKA_SETS_SIZE, pattern, length, witness, line_length);
+    } else {
+        yindorka_readable(pattern, length, witness, line_length);
+    }
+}
+
 /* The first line cut differently, and the same in printable bytes of the same groups, where there are any. */
 static void show_witness(const uint8_t *pattern, size_t length, size_t witness_length)
 {
     for (size_t i = 0; i < witness_length; i++) {
         printf("%02x", witness[i]);
     }
-    yindorka_readable(pattern, length, witness, witness_length);
+    make_readable(pattern, length, witness_length);
     printf(", in readable bytes: ");
     fwrite(witness, 1, witness_length, stdout);
     printf("\n");
@@ -39,7 +75,7 @@ static void show_verdict(const uint8_t *pattern, size_t length, yindorka_outcome
     }
 }
 
-/* How long a span of an accepted pattern can be. */
+/* How long a span of an accepted pattern can be, whatever its sets are. */
 static void show_lengths(const uint8_t *pattern, size_t length)
 {
     yindorka_span_lengths x = yindorka_lengths(pattern, length);
@@ -62,8 +98,13 @@ static void show_cut(const char *line)
 
 int main(int n, char **words)
 {
+    if (n > 1 && strcmp(words[1], "--latin1") == 0) {
+        load_latin1();
+        n--;
+        words++;
+    }
     if (n < 2) {
-        fprintf(stderr, "usage: example PATTERN LINE..\n");
+        fprintf(stderr, "usage: example [--latin1] PATTERN LINE..\n");
         return 2;
     }
     if (yindorka_version() != YINDORKA_VERSION_NUMBER) {
@@ -72,8 +113,8 @@ int main(int n, char **words)
     }
     const uint8_t *pattern = (const uint8_t *)words[1];
     size_t length = strlen(words[1]);
-    show_verdict(pattern, length, yindorka_check(pattern, length, table, sizeof table, witness, sizeof witness, area, sizeof area));
-    if (yindorka_read(pattern, length, &tables).number) {
+    show_verdict(pattern, length, check(pattern, length));
+    if (read_tables(pattern, length).number) {
         return 1;
     }
     show_lengths(pattern, length);

@@ -1,15 +1,24 @@
 // Reads a pattern from the command line, says whether the two readings can ever cut a line differently and how long a span can be, and cuts the other words both ways.
-// Usage: example PATTERN LINE..   Built and run by examples/rust/run. Pattern and lines are bytes, whether they are UTF-8 or not.
+// With --latin1 the letters of the code page Latin-1 are letters, in [[:alpha:]] and the other named sets.
+// Usage: example [--latin1] PATTERN LINE..   Built and run by examples/rust/run. Pattern and lines are bytes, whether they are UTF-8 or not.
 use std::env;
 use std::io::{self, Write};
 use std::os::unix::ffi::OsStringExt;
 use std::process::exit;
 
 // The library's version, structs and functions, as include/yindorka.h has them.
-const VERSION: u32 = 10800;
+const VERSION: u32 = 10900;
 
 // The bytes of the area that the checker needs.
 const AREA_SIZE: usize = 1024;
+
+// A table of named sets: entry b has the bits of the sets that hold the byte b.
+type Sets = [u8; 256];
+const ALPHA: u8 = 128;
+const ALNUM: u8 = 32;
+const UPPER: u8 = 16;
+const LOWER: u8 = 8;
+const PUNCT: u8 = 1;
 
 #[repr(C)]
 struct Refusal {
@@ -42,7 +51,10 @@ struct Outcome {
 
 extern "C" {
     fn yindorka_version() -> u32;
-    fn yindorka_prepare(
+    fn yindorka_fixed_sets(table: *mut u8);
+    fn yindorka_prepare_with_sets(
+        own_sets: *const u8,
+        own_sets_length: usize,
         pattern: *const u8,
         length: usize,
         masks: *mut u64,
@@ -67,8 +79,10 @@ extern "C" {
     ) -> usize;
     fn yindorka_lengths(pattern: *const u8, length: usize) -> SpanLengths;
     fn yindorka_record_bytes(pattern: *const u8, length: usize) -> RecordSize;
-    fn yindorka_readable(pattern: *const u8, length: usize, line: *mut u8, line_length: usize) -> Refusal;
-    fn yindorka_check(
+    fn yindorka_readable_with_sets(sets: *const u8, sets_length: usize, pattern: *const u8, length: usize, line: *mut u8, line_length: usize) -> Refusal;
+    fn yindorka_check_with_sets(
+        sets: *const u8,
+        sets_length: usize,
         pattern: *const u8,
         length: usize,
         table: *mut u8,
@@ -97,8 +111,28 @@ enum Verdict {
     Refused { number: usize, place: usize },
 }
 
+// The named sets of the POSIX locale over ASCII. With them the calls without the ending _with_sets do the same.
+fn fixed() -> Sets {
+    let mut sets = [0; 256];
+    // Safe: the pointer is to as many bytes as the library's signature has.
+    unsafe { yindorka_fixed_sets(sets.as_mut_ptr()) };
+    sets
+}
+
+// The same, and the letters from 0xC0 on; 0xD7 and 0xF7 are signs.
+fn latin1() -> Sets {
+    let mut sets = fixed();
+    for b in 0xC0..=0xFFu8 {
+        sets[usize::from(b)] = match b {
+            0xD7 | 0xF7 => PUNCT,
+            _ => ALPHA | ALNUM | if b < 0xDF { UPPER } else { LOWER },
+        };
+    }
+    sets
+}
+
 impl Pattern {
-    fn read(text: &[u8]) -> Result<Pattern, Refusal> {
+    fn read(sets: &Sets, text: &[u8]) -> Result<Pattern, Refusal> {
         let mut p = Pattern {
             masks: [0; 256],
             rows: [0; 4225],
@@ -110,7 +144,9 @@ impl Pattern {
         };
         // Safe: each pointer is to as many elements as the library's signature has, and the slice's pointer is never null.
         let r = unsafe {
-            yindorka_prepare(
+            yindorka_prepare_with_sets(
+                sets.as_ptr(),
+                sets.len(),
                 text.as_ptr(),
                 text.len(),
                 p.masks.as_mut_ptr(),
@@ -152,14 +188,14 @@ impl Pattern {
 }
 
 // The line in printable bytes of the same groups, where there are any.
-fn readable(text: &[u8], line: &[u8]) -> Vec<u8> {
+fn readable(sets: &Sets, text: &[u8], line: &[u8]) -> Vec<u8> {
     let mut shown = line.to_vec();
     // Safe as above.
-    unsafe { yindorka_readable(text.as_ptr(), text.len(), shown.as_mut_ptr(), shown.len()) };
+    unsafe { yindorka_readable_with_sets(sets.as_ptr(), sets.len(), text.as_ptr(), text.len(), shown.as_mut_ptr(), shown.len()) };
     shown
 }
 
-fn check(text: &[u8]) -> Verdict {
+fn check(sets: &Sets, text: &[u8]) -> Verdict {
     let mut table = vec![0u8; 65536];
     // A witness has fewer bytes than there are records, and the table holds at most 5,041.
     let mut witness = vec![0u8; 5041];
@@ -167,7 +203,9 @@ fn check(text: &[u8]) -> Verdict {
     let mut area = [0u8; AREA_SIZE];
     // Safe as above.
     let o = unsafe {
-        yindorka_check(
+        yindorka_check_with_sets(
+            sets.as_ptr(),
+            sets.len(),
             text.as_ptr(),
             text.len(),
             table.as_mut_ptr(),
@@ -184,7 +222,7 @@ fn check(text: &[u8]) -> Verdict {
             witness.truncate(o.second);
             Verdict::Unlike {
                 count: o.first,
-                readable: readable(text, &witness),
+                readable: readable(sets, text, &witness),
                 witness,
             }
         }
@@ -214,7 +252,7 @@ fn show_verdict(out: &mut impl Write, text: &[u8], verdict: Verdict) -> io::Resu
     }
 }
 
-// How long a span of an accepted pattern can be.
+// How long a span of an accepted pattern can be, whatever its sets are.
 fn show_lengths(out: &mut impl Write, text: &[u8]) -> io::Result<()> {
     // Safe as above.
     match unsafe { yindorka_lengths(text.as_ptr(), text.len()) } {
@@ -234,10 +272,10 @@ fn show_cut(out: &mut impl Write, pattern: &Pattern, line: &[u8]) -> io::Result<
 }
 
 // Whether the pattern is one.
-fn show_all(words: &[Vec<u8>]) -> io::Result<bool> {
+fn show_all(sets: &Sets, words: &[Vec<u8>]) -> io::Result<bool> {
     let mut out = io::stdout().lock();
-    show_verdict(&mut out, &words[0], check(&words[0]))?;
-    let Ok(pattern) = Pattern::read(&words[0]) else {
+    show_verdict(&mut out, &words[0], check(sets, &words[0]))?;
+    let Ok(pattern) = Pattern::read(sets, &words[0]) else {
         return Ok(false);
     };
     show_lengths(&mut out, &words[0])?;
@@ -248,9 +286,13 @@ fn show_all(words: &[Vec<u8>]) -> io::Result<bool> {
 }
 
 fn main() {
-    let words: Vec<Vec<u8>> = env::args_os().skip(1).map(|word| word.into_vec()).collect();
+    let mut words: Vec<Vec<u8>> = env::args_os().skip(1).map(|word| word.into_vec()).collect();
+    let own = words.first().is_some_and(|word| word == b"--latin1");
+    if own {
+        words.remove(0);
+    }
     if words.is_empty() {
-        eprintln!("usage: example PATTERN LINE..");
+        eprintln!("usage: example [--latin1] PATTERN LINE..");
         exit(2);
     }
     // Safe: it takes nothing.
@@ -258,7 +300,8 @@ fn main() {
         eprintln!("example: the library is of another version than this file");
         exit(2);
     }
-    match show_all(&words) {
+    let sets = if own { latin1() } else { fixed() };
+    match show_all(&sets, &words) {
         Ok(true) => (),
         Ok(false) => exit(1),
         Err(e) => {

@@ -9,10 +9,9 @@ use lib.ListN.{take}
 use Rattle.theory.specs.Spans.{greedy, posix}
 use Rattle.theory.proofs.Tests.{either}
 use Rattle.grammar.specs.Grammar.{Alternation}
-use Rattle.grammar.specs.Limits.{Reads}
+use Rattle.grammar.specs.Loaded.{Accepts, Refuses}
 use Rattle.grammar.specs.WriteOut.{writeOut}
-use Rattle.grammar.specs.Refusals.{Fault}
-use Rattle.grammar.proofs.Right.{either-way}
+use Rattle.grammar.proofs.Loaded.{accepts-or-refuses}
 use Rattle.verdict.specs.Tabled.{unlike, whole}
 use Rattle.verdict.specs.Checked.{Checked, by-fault}
 use Rattle.verdict.proofs.One.{result}
@@ -32,20 +31,20 @@ use Rattle.answers.specs.Cutting.{MadeReadable, Shown}
 use Rattle.answers.specs.Cutting as Shows
 
 -- Spans that are there are an accepted pattern's: a refused one has none.
-reads-of : {p w : List ℕ} {r : Reply} {i j k : ℕ} → Replied p w r → r .spans ≡ Located i j k → (a : Alternation) × Reads p a
-reads-of {p} {w} {r} {i} {j} {k} h e = go (either-way p)
+reads-of : {loaded p w : List ℕ} {r : Reply} {i j k : ℕ} → Replied loaded p w r → r .spans ≡ Located i j k → (a : Alternation) × Accepts loaded p a
+reads-of {loaded} {p} {w} {r} {i} {j} {k} h e = go (accepts-or-refuses loaded p)
   where
-    go : ((a : Alternation) × Reads p a) ⊎ ((n : ℕ) × (q : ℕ) × Fault p n q) → (a : Alternation) × Reads p a
+    go : ((a : Alternation) × Accepts loaded p a) ⊎ ((n : ℕ) × (q : ℕ) × Refuses loaded p n q) → (a : Alternation) × Accepts loaded p a
     go (inl x) = x
     go (inr (n, q, f)) = let none = subst (λ x. Beside x (r .spans)) (cut-refused h .1 f) (h .beside) in absurd (let z : _≡_ {A = ℕ} 0 1 = cc in omega arith)
 
-module _ {p w : List ℕ} {r : Reply} (h : Replied p w r) where
+module _ {loaded p w : List ℕ} {r : Reply} (h : Replied loaded p w r) where
   -- Neither is there,
-  pub no-spans : r .spans ≡ Nowhere → (a : Alternation) → Reads p a → greedy (writeOut a) w ≡ posix (writeOut a) w
+  pub no-spans : r .spans ≡ Nowhere → (a : Alternation) → Accepts loaded p a → greedy (writeOut loaded a) w ≡ posix (writeOut loaded a) w
   no-spans e a i = let c = spans-of h a i in sym (c .greedily) ∙ ap greedyOf e ∙ sym (ap posixOf e) ∙ c .longest
 
   -- or both, from one start.
-  pub both-spans : {i j k n : ℕ} {v text : List ℕ} → r .spans ≡ Located i j k → MadeReadable p w v → ExplainedLine n w i j k v text → CutLine p n w text
+  pub both-spans : {i j k n : ℕ} {v text : List ℕ} → r .spans ≡ Located i j k → MadeReadable loaded p w v → ExplainedLine n w i j k v text → CutLine loaded p n w text
   both-spans {i} {j} {k} {n} {v} {text} e f l =
       let (a, reads) = reads-of h e in
       let c = spans-of h a reads in
@@ -61,10 +60,10 @@ module _ {p w : List ℕ} {r : Reply} (h : Replied p w r) where
       }
 
 -- A witness is cut differently, so it is shown with its spans.
-pub witness-cut : {p t u s t′ v s′ text : List ℕ} {n k : ℕ} → Checked p t u s (whole (unlike n k) t′ v) s′ → Shown p n (take k v) text → CutLine p n (take k v) text
+pub witness-cut : {loaded p t u s t′ v s′ text : List ℕ} {n k : ℕ} → Checked loaded p t u s (whole (unlike n k) t′ v) s′ → Shown loaded p n (take k v) text → CutLine loaded p n (take k v) text
 witness-cut c (Shows.cut l) = l
-witness-cut {p} {t} {u} {s} {t′} {v} {s′} {text} {n} {k} c (Shows.uncut same l) =
+witness-cut {loaded} {p} {t} {u} {s} {t′} {v} {s′} {text} {n} {k} c (Shows.uncut same l) =
     either
     (λ (a, reads). absurd (unlike-means a reads c .0 .cut (same a reads)))
     (λ (m, q, f). let e = ap result (checked-one c (by-fault f) .0) in absurd (let z : _≡_ {A = ℕ} 0 1 = cc in omega arith))
-    (either-way p)
+    (accepts-or-refuses loaded p)

@@ -29,28 +29,28 @@ use Rattle.answers.specs.declared.Asked.the-variants.{Spans, Looking, De
 use Rattle.answers.specs.declared.Asked.the-variants as Asked
 use Rattle.answers.specs.Cutting.{Begun, long, unread, unasked}
 
-module _ {p group lowest group′ lowest′ : List ℕ} {x : Counted} (shown : Shows p group lowest x group′ lowest′) where
-  pub listed-groups : {w : List ℕ} → x .answer ≡ Accepted → GroupsLine group′ w → Listed p w
+module _ {loaded p group lowest group′ lowest′ : List ℕ} {x : Counted} (shown : Shows loaded p group lowest x group′ lowest′) where
+  pub listed-groups : {w : List ℕ} → x .answer ≡ Accepted → GroupsLine group′ w → Listed loaded p w
   listed-groups {w} e l = let (t, reads, f) = shows-accepted shown e in record { answer = Due.accepted t; right = reads; line = subst (λ g. GroupsLine g w) (ap (λ y. y .group) f) l }
 
-  pub listed-refused : {w : List ℕ} {n q : ℕ} → x .answer ≡ Refused n q → RefusedLine n q w → Listed p w
+  pub listed-refused : {w : List ℕ} {n q : ℕ} → x .answer ≡ Refused n q → RefusedLine n q w → Listed loaded p w
   listed-refused {w} {n} {q} e l = record { answer = Due.refused n q; right = shows-refused shown e; line = l }
 
-module _ {p : List ℕ} {r : Reading} (read : ReadRight p r) {asked : Bool} {old new : List ℕ} {n m : ℕ} where
+module _ {loaded p : List ℕ} {r : Reading} (read : ReadRight loaded p r) {asked : Bool} {old new : List ℕ} {n m : ℕ} where
   -- What stands before a report is the pattern's own.
   pub begun-long : {bytes : ℕ} {is : Bool} → asked ≡ true → r .answer ≡ Accepted → is ≡ isLimited (longestOf (r .lengths .greatest)) → bytes ≡ bytesOf (longestOf (r .lengths .greatest))
-      → Printed 57 (Ahead (LengthsText (r .lengths .least) (cond is (some bytes) none))) old n new m → Begun asked p old n new m
+      → Printed 57 (Ahead (LengthsText (r .lengths .least) (cond is (some bytes) none))) old n new m → Begun loaded asked p old n new m
   begun-long {bytes} {is} a e q b l =
       let (t, reads, least, greatest) = accepted-lengths read e in
       let limit : cond is (some bytes) none ≡ limitOf (longestOf (r .lengths .greatest)) = rw (q, b) refl in
       long a reads (l .0, subst₂ (λ k g. Ahead (LengthsText k g) (l .0)) least (limit ∙ ap limitOf greatest) (l .1), l .2, l .3)
 
-  pub begun-unread : {k q : ℕ} → asked ≡ true → r .answer ≡ Refused k q → new ≡ old → m ≡ n → Begun asked p old n new m
+  pub begun-unread : {k q : ℕ} → asked ≡ true → r .answer ≡ Refused k q → new ≡ old → m ≡ n → Begun loaded asked p old n new m
   begun-unread a e s t = unread a (refused-fault read e) s t
 
 -- The report, with what stands before it.
-pub reported-by : {p old new final : List ℕ} {n m k : ℕ} {x y : Buffers} (asked : Bool) → Begun asked p old n new m → Printed 20360 (λ w. Reported x p w y) new m final k
-    → Printed 20417 (λ w. ReportedBy asked x p w y) old n final k
+pub reported-by : {loaded p old new final : List ℕ} {n m k : ℕ} {x y : Buffers} (asked : Bool) → Begun loaded asked p old n new m → Printed 20360 (λ w. Reported loaded x p w y) new m final k
+    → Printed 20417 (λ w. ReportedBy loaded asked x p w y) old n final k
 reported-by {x = x} {y = y} asked (long {t = t} a reads (v, l, s, f)) (w, z, i, g) =
     rw a (
       v ++ w,

@@ -1,4 +1,4 @@
-// What the programs print for a pattern: the checker's verdict on it, also with both spans of the witness and its readable form, how much looking it took and how long a
+// What the programs print for a pattern, with a table of named sets that is loaded: the checker's verdict on it, also with both spans of the witness and its readable form, how much looking it took and how long a
 // match can be; or the pattern's byte groups; and the answers to the patterns of the input.
 ghost use mathlib.Core.Path.{_≡_};
 ghost use Prim.Native.Nat.{_≤_};
@@ -52,25 +52,26 @@ pub fn verdict(out: &mut [u8; SIZE], n: usize, x: Verdict, witness: &[u8]) -> us
 }
 
 // Makes the first n bytes of a line readable.
-fn make_readable(pattern: &[u8], line: &mut [u8], n: usize)
+fn make_readable(loaded: &[u8], pattern: &[u8], line: &mut [u8], n: usize)
     requires { ⌜ n ≤ length (now line) ⌝ }
-    ensures { λ _. ⌜ MadeReadable (now (pattern .entry)) (take n (now (line .entry))) (take n (now (line .exit))) ⌝ }
+    ensures { λ _. ⌜ MadeReadable (now (loaded .entry)) (now (pattern .entry)) (take n (now (line .entry))) (take n (now (line .exit))) ⌝ }
 {
-    screen::readable(pattern, &mut line[..n]);
+    screen::readable(loaded, pattern, &mut line[..n]);
 }
 
 // Appends the verdict unlike with both spans of the witness and its readable form. A line that is not cut differently may have no span.
 fn cut_witness<'a>(
     out: &mut [u8; SIZE],
     n: usize,
+    loaded: &'a [u8],
     pattern: &'a [u8],
     count: usize,
     length: usize,
     witness: &'a [u8; WITNESS],
 ) -> usize
-    ensures { λ r. ⌜ Printed (room (room 136 (now (witness .entry))) (now (witness .entry))) (Shown (now (pattern .entry)) count (take length (now (witness .entry)))) (now (out .entry)) n (now (out .exit)) r ⌝ }
+    ensures { λ r. ⌜ Printed (room (room 136 (now (witness .entry))) (now (witness .entry))) (Shown (now (loaded .entry)) (now (pattern .entry)) count (take length (now (witness .entry)))) (now (out .entry)) n (now (out .exit)) r ⌝ }
 {
-    let reply = readings::cut_line(pattern, lines::first_of(witness, length));
+    let reply = readings::cut_line(loaded, pattern, lines::first_of(witness, length));
     let spans = reply.spans;
     let Spans::Located {
         start,
@@ -82,7 +83,7 @@ fn cut_witness<'a>(
     };
     let mut readable = *witness;
     let end = words::least(length, words::length_of(witness));
-    make_readable(pattern, &mut readable, end);
+    make_readable(loaded, pattern, &mut readable, end);
     printing::explained(out, n, count, end, witness, start, greedy, posix, &readable)
 }
 
@@ -90,45 +91,55 @@ fn cut_witness<'a>(
 fn explained<'a>(
     out: &mut [u8; SIZE],
     n: usize,
+    loaded: &'a [u8],
     pattern: &'a [u8],
     x: Verdict,
     witness: &'a [u8; WITNESS],
 ) -> usize
-    ensures { λ r. ⌜ Explained (now (pattern .entry)) x (now (witness .entry)) (now (out .entry)) n (now (out .exit)) r ⌝ }
+    ensures { λ r. ⌜ Explained (now (loaded .entry)) (now (pattern .entry)) x (now (witness .entry)) (now (out .entry)) n (now (out .exit)) r ⌝ }
 {
     match x {
         Verdict::Alike { count } => printing::alike(out, n, count),
-        Verdict::Unlike { count, length } => cut_witness(out, n, pattern, count, length, witness),
+        Verdict::Unlike { count, length } => cut_witness(
+            out,
+            n,
+            loaded,
+            pattern,
+            count,
+            length,
+            witness,
+        ),
         Verdict::Refused { number, place } => printing::refused(out, n, number, place),
     }
 }
 
 // Appends the checker's verdict on a pattern; `spans` asks for the spans of the witness and its readable form. The buffers are the checker's.
-fn judge(
+fn judge<'a>(
     out: &mut [u8; SIZE],
     n: usize,
-    pattern: &[u8],
+    loaded: &'a [u8],
+    pattern: &'a [u8],
     table: &mut [u8; TABLE],
     witness: &mut [u8; WITNESS],
     area: &mut [u8; AREA],
     spans: bool,
 ) -> usize
-    ensures { λ r. ⌜ Printed 20300 (λ w. Judged spans (buffers (now (table .entry)) (now (witness .entry)) (now (area .entry))) (now (pattern .entry)) w (buffers (now (table .exit)) (now (witness .exit)) (now (area .exit))))
+    ensures { λ r. ⌜ Printed 20300 (λ w. Judged (now (loaded .entry)) spans (buffers (now (table .entry)) (now (witness .entry)) (now (area .entry))) (now (pattern .entry)) w (buffers (now (table .exit)) (now (witness .exit)) (now (area .exit))))
         (now (out .entry)) n (now (out .exit)) r ⌝ }
 {
-    let x = checker::check(pattern, table, witness, area);
+    let x = checker::check(loaded, pattern, table, witness, area);
     if spans {
-        return explained(out, n, pattern, x, witness);
+        return explained(out, n, loaded, pattern, x, witness);
     }
     verdict(out, n, x, witness)
 }
 
 // Appends how long a match of a pattern can be, if that is asked for and the pattern is not refused.
-fn ahead(out: &mut [u8; SIZE], n: usize, pattern: &[u8], asked: bool) -> usize
-    ensures { λ r. ⌜ Begun asked (now (pattern .entry)) (now (out .entry)) n (now (out .exit)) r ⌝ }
+fn ahead(out: &mut [u8; SIZE], n: usize, loaded: &[u8], pattern: &[u8], asked: bool) -> usize
+    ensures { λ r. ⌜ Begun (now (loaded .entry)) asked (now (pattern .entry)) (now (out .entry)) n (now (out .exit)) r ⌝ }
 {
     if asked {
-        let reading = reader::read(pattern);
+        let reading = reader::read(loaded, pattern);
         let answer = reading.answer;
         let own = reading.lengths;
         let greatest = own.greatest;
@@ -144,33 +155,34 @@ fn ahead(out: &mut [u8; SIZE], n: usize, pattern: &[u8], asked: bool) -> usize
 
 // Appends how much looking the check of a pattern took, and the verdict with the spans of the witness and its readable form; `details` asks for how long a match can be,
 // before that.
-fn report(
+fn report<'a>(
     out: &mut [u8; SIZE],
     n: usize,
-    pattern: &[u8],
+    loaded: &'a [u8],
+    pattern: &'a [u8],
     table: &mut [u8; TABLE],
     witness: &mut [u8; WITNESS],
     area: &mut [u8; AREA],
     details: bool,
 ) -> usize
-    ensures { λ r. ⌜ Printed 20417 (λ w. ReportedBy details (buffers (now (table .entry)) (now (witness .entry)) (now (area .entry))) (now (pattern .entry)) w (buffers (now (table .exit)) (now (witness .exit)) (now (area .exit))))
+    ensures { λ r. ⌜ Printed 20417 (λ w. ReportedBy (now (loaded .entry)) details (buffers (now (table .entry)) (now (witness .entry)) (now (area .entry))) (now (pattern .entry)) w (buffers (now (table .exit)) (now (witness .exit)) (now (area .exit))))
         (now (out .entry)) n (now (out .exit)) r ⌝ }
 {
-    let start = ahead(out, n, pattern, details);
-    let x = checker::check_looking(pattern, table, witness, area);
+    let start = ahead(out, n, loaded, pattern, details);
+    let x = checker::check_looking(loaded, pattern, table, witness, area);
     let looking = x.looking;
     let verdict = x.verdict;
     let head = printing::looking(out, start, looking.looks, looking.comparisons);
-    explained(out, head, pattern, verdict, witness)
+    explained(out, head, loaded, pattern, verdict, witness)
 }
 
 // Appends the number of each byte's group, or the pattern's refusal.
-fn list_groups(out: &mut [u8; SIZE], n: usize, pattern: &[u8]) -> usize
-    ensures { λ r. ⌜ Printed 5383 (Listed (now (pattern .entry))) (now (out .entry)) n (now (out .exit)) r ⌝ }
+fn list_groups(out: &mut [u8; SIZE], n: usize, loaded: &[u8], pattern: &[u8]) -> usize
+    ensures { λ r. ⌜ Printed 5383 (Listed (now (loaded .entry)) (now (pattern .entry))) (now (out .entry)) n (now (out .exit)) r ⌝ }
 {
     let mut group = [0u8; 256];
     let mut lowest = [0u8; 256];
-    let own = screen::groups(pattern, &mut group, &mut lowest);
+    let own = screen::groups(loaded, pattern, &mut group, &mut lowest);
     let answer = own.answer;
     let reader::Answer::Refused { number, place } = answer else {
         return printing::groups(out, n, &group);
@@ -188,30 +200,32 @@ fn asks_details(asked: Asked) -> bool
 }
 
 // Appends what is asked for a pattern. Groups need no buffer.
-pub fn answer(
+pub fn answer<'a>(
     out: &mut [u8; SIZE],
     n: usize,
-    pattern: &[u8],
+    loaded: &'a [u8],
+    pattern: &'a [u8],
     table: &mut [u8; TABLE],
     witness: &mut [u8; WITNESS],
     area: &mut [u8; AREA],
     asked: Asked,
 ) -> usize
-    ensures answered { λ r. ⌜ Answered asked (buffers (now (table .entry)) (now (witness .entry)) (now (area .entry))) (now (pattern .entry)) (buffers (now (table .exit)) (now (witness .exit)) (now (area .exit)))
+    ensures answered { λ r. ⌜ Answered (now (loaded .entry)) asked (buffers (now (table .entry)) (now (witness .entry)) (now (area .entry))) (now (pattern .entry)) (buffers (now (table .exit)) (now (witness .exit)) (now (area .exit)))
         (now (out .entry)) n (now (out .exit)) r ⌝ }
 {
     let details = asks_details(asked);
     match asked {
-        Asked::Verdict => judge(out, n, pattern, table, witness, area, false),
-        Asked::Spans => judge(out, n, pattern, table, witness, area, true),
-        Asked::Groups => list_groups(out, n, pattern),
+        Asked::Verdict => judge(out, n, loaded, pattern, table, witness, area, false),
+        Asked::Spans => judge(out, n, loaded, pattern, table, witness, area, true),
+        Asked::Groups => list_groups(out, n, loaded, pattern),
         // one call for both, so that a program that asks for neither is built without it
-        _ => report(out, n, pattern, table, witness, area, details),
+        _ => report(out, n, loaded, pattern, table, witness, area, details),
     }
 }
 
 // Answers the patterns whose lines end in the chunk, in their order, while there is room for a further answer.
 pub fn answer_lines(
+    loaded: &[u8],
     chunk: &[u8; SIZE],
     line: &mut [u8; KEPT],
     out: &mut [u8; SIZE],
@@ -221,7 +235,7 @@ pub fn answer_lines(
     asked: Asked,
     state: State,
 ) -> State
-    ensures served { λ r. ⌜ Served (Answer asked) 20417 (now (chunk .entry)) (now (line .entry)) (now (out .entry)) (buffers (now (table .entry)) (now (witness .entry)) (now (area .entry))) state
+    ensures served { λ r. ⌜ Served (Answer (now (loaded .entry)) asked) 20417 (now (chunk .entry)) (now (line .entry)) (now (out .entry)) (buffers (now (table .entry)) (now (witness .entry)) (now (area .entry))) state
         (now (line .exit)) (now (out .exit)) (buffers (now (table .exit)) (now (witness .exit)) (now (area .exit))) r ⌝ }
 {
     let mut s = state;
@@ -229,7 +243,7 @@ pub fn answer_lines(
         s = lines::next_line(chunk, line, s);
         if s.whole {
             let pattern = lines::first_of(line, s.n);
-            s.used = answer(out, s.used, pattern, table, witness, area, asked);
+            s.used = answer(out, s.used, loaded, pattern, table, witness, area, asked);
         }
     }
     s
@@ -237,6 +251,7 @@ pub fn answer_lines(
 
 // Answers the patterns of the input, until it is over or a read or a write fails.
 pub fn run(
+    loaded: &[u8],
     chunk: &mut [u8; SIZE],
     line: &mut [u8; KEPT],
     out: &mut [u8; SIZE],
@@ -252,7 +267,7 @@ pub fn run(
     s.used = 0;
     let mut turns = u64::MAX;
     while turns > 0 && lines::goes_on(s) {
-        s = answer_lines(chunk, line, out, table, witness, area, asked, s);
+        s = answer_lines(loaded, chunk, line, out, table, witness, area, asked, s);
         s = lines::exchange(chunk, out, s);
         turns -= 1;
     }

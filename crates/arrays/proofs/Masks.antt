@@ -36,21 +36,21 @@ places-more places n q x r few h is p = go (decLt p n) (decLt n p)
         rw e (a n ∙ rw (h n, le-ltb n n (omega arith), eq-eqb n n refl, lt-ltb n (n + 1) (omega arith)) (and-true (eqb (getD places n 0) q)))
 
 -- The mask of a byte, by what the code learnt of the set.
-pub marked-some : (s : List ℕ) (q m b x r : ℕ) (t : Bool) → t ≡ leafHolds (drop q s) b → t ≡ true → r ≡ bitOr x m → Marked s q m b x r
-marked-some s q m b x r t e h u p = ap (λ y. hasBit y p) u ∙ or-bit x m p ∙ rw (← e, h)
+pub marked-some : (loaded s : List ℕ) (q m b x r : ℕ) (t : Bool) → t ≡ leafHolds loaded (drop q s) b → t ≡ true → r ≡ bitOr x m → Marked loaded s q m b x r
+marked-some loaded s q m b x r t e h u p = ap (λ y. hasBit y p) u ∙ or-bit x m p ∙ rw (← e, h)
 
-pub marked-none : (s : List ℕ) (q m b x : ℕ) (t : Bool) → t ≡ leafHolds (drop q s) b → t ≡ false → Marked s q m b x x
-marked-none s q m b x t e h p = rw (← e, h) (sym (or-false (hasBit x p)))
+pub marked-none : (loaded s : List ℕ) (q m b x : ℕ) (t : Bool) → t ≡ leafHolds loaded (drop q s) b → t ≡ false → Marked loaded s q m b x x
+marked-none loaded s q m b x t e h p = rw (← e, h) (sym (or-false (hasBit x p)))
 
-pub marked-begin : (s : List ℕ) (q m : ℕ) (masks : List ℕ) → length masks ≡ 256 → MarkedTo s q m 0 masks masks
-marked-begin s q m masks h = record { long = h; marked = λ k l. absurd (omega arith); kept = λ k l. refl }
+pub marked-begin : (loaded s : List ℕ) (q m : ℕ) (masks : List ℕ) → length masks ≡ 256 → MarkedTo loaded s q m 0 masks masks
+marked-begin loaded s q m masks h = record { long = h; marked = λ k l. absurd (omega arith); kept = λ k l. refl }
 
-pub marked-turn : (s : List ℕ) (q m b x : ℕ) (before masks : List ℕ) → b < 256 → MarkedTo s q m b before masks → Marked s q m b (getD masks b 0) x
-    → MarkedTo s q m (b + 1) before (set masks b x)
-marked-turn s q m b x before masks h t w =
+pub marked-turn : (loaded s : List ℕ) (q m b x : ℕ) (before masks : List ℕ) → b < 256 → MarkedTo loaded s q m b before masks → Marked loaded s q m b (getD masks b 0) x
+    → MarkedTo loaded s q m (b + 1) before (set masks b x)
+marked-turn loaded s q m b x before masks h t w =
     record {
       long = length-set masks b x ∙ t .long;
-      marked = below-more (λ k. Marked s q m k (getD before k 0) (getD (set masks b x) k 0)) b
+      marked = below-more (λ k. Marked loaded s q m k (getD before k 0) (getD (set masks b x) k 0)) b
           (λ k l. rw (getD-set-other masks b k x 0 (λ e. omega arith)) (t .marked k l))
           (rw (getD-set-same masks b x 0 (omega (arith, t .long)), ← t .kept b (omega arith)) w);
       kept = λ k l. getD-set-other masks b k x 0 (λ e. omega arith) ∙ t .kept k (omega arith);
@@ -86,13 +86,13 @@ not-true-false true h = absurd (h refl)
 not-true-false false h = refl
 
 -- A turn at a leaf that is done,
-pub turn-done : (s places : List ℕ) (n done p : ℕ) (masks : List ℕ) → length masks ≡ 256 → hasBit done p ≡ true → Turn s places n done p masks masks done
-turn-done s places n done p masks l h = record { long = l; kept = λ k. k; more = λ k e. e; here = h; only = λ f. f }
+pub turn-done : (loaded s places : List ℕ) (n done p : ℕ) (masks : List ℕ) → length masks ≡ 256 → hasBit done p ≡ true → Turn loaded s places n done p masks masks done
+turn-done loaded s places n done p masks l h = record { long = l; kept = λ k. k; more = λ k e. e; here = h; only = λ f. f }
 
 -- and at one that is not: m are the leaves at its place.
 module _
-    (s places : List ℕ) (n done p m done′ : ℕ) (masks masks′ : List ℕ) (below : p < n) (alike : Places places n (getD places p 0) m)
-    (all : MarkedTo s (getD places p 0) m 256 masks masks′) (union : done′ ≡ bitOr done m) where
+    (loaded s places : List ℕ) (n done p m done′ : ℕ) (masks masks′ : List ℕ) (below : p < n) (alike : Places places n (getD places p 0) m)
+    (all : MarkedTo loaded s (getD places p 0) m 256 masks masks′) (union : done′ ≡ bitOr done m) where
   joined : (k : ℕ) → hasBit done′ k ≡ (hasBit done k || hasBit m k)
   joined k = ap (λ y. hasBit y k) union ∙ or-bit done m k
 
@@ -102,12 +102,12 @@ module _
   below-all : (k : ℕ) → hasBit m k ≡ true → k < n
   below-all k e = ltb-true k n (and-left (ltb k n) _ (sym (alike k) ∙ e))
 
-  pub turn-new : Turn s places n done p masks masks′ done′
+  pub turn-new : Turn loaded s places n done p masks masks′ done′
   turn-new =
       record {
         long = all .long;
         kept = λ h b k l. all .marked b l k ∙ rw (h b k l, joined k)
-            (marks-done (hasBit done k) (leafHolds (drop (getD places k 0) s) b) (leafHolds (drop (getD places p 0) s) b) (hasBit m k)
+            (marks-done (hasBit done k) (leafHolds loaded (drop (getD places k 0) s) b) (leafHolds loaded (drop (getD places p 0) s) b) (hasBit m k)
             (λ e. rw (one-place k e)));
         more = λ k e. joined k ∙ rw e;
         here = joined p ∙ rw (alike p, lt-ltb p n below, eq-eqb (getD places p 0) (getD places p 0) refl) (or-true (hasBit done p));
@@ -115,14 +115,14 @@ module _
       }
 
 -- What holds of the masks before the leaf p of n: all leaves below p are done.
-pub record Done (s places : List ℕ) (n done p : ℕ) (masks : List ℕ) : Type 0 where
+pub record Done (loaded s places : List ℕ) (n done p : ℕ) (masks : List ℕ) : Type 0 where
   pub long : length masks ≡ 256
-  pub right : Masked s places (hasBit done) masks
+  pub right : Masked loaded s places (hasBit done) masks
   pub all : (k : ℕ) → k < p → hasBit done k ≡ true
   pub only : (k : ℕ) → hasBit done k ≡ true → k < n
 
-pub done-begin : (s places : List ℕ) (n : ℕ) → Done s places n 0 0 (replicate 256 0)
-done-begin s places n =
+pub done-begin : (loaded s places : List ℕ) (n : ℕ) → Done loaded s places n 0 0 (replicate 256 0)
+done-begin loaded s places n =
     record {
       long = refl;
       right = λ b p h. rw (getD-replicate {A = ℕ} 256 b 0 0 h, no-bit p);
@@ -130,9 +130,9 @@ done-begin s places n =
       only = λ k e. absurd (true≢false (sym e ∙ no-bit k));
     }
 
-pub done-turn : (s places : List ℕ) (n done p done′ : ℕ) (masks masks′ : List ℕ) → Done s places n done p masks
-    → Turn s places n done p masks masks′ done′ → Done s places n done′ (p + 1) masks′
-done-turn s places n done p done′ masks masks′ d t =
+pub done-turn : (loaded s places : List ℕ) (n done p done′ : ℕ) (masks masks′ : List ℕ) → Done loaded s places n done p masks
+    → Turn loaded s places n done p masks masks′ done′ → Done loaded s places n done′ (p + 1) masks′
+done-turn loaded s places n done p done′ masks masks′ d t =
     record {
       long = t .long;
       right = t .kept (d .right);
@@ -140,8 +140,8 @@ done-turn s places n done p done′ masks masks′ d t =
       only = t .only (d .only);
     }
 
-pub done-end : (s places : List ℕ) (n done : ℕ) (masks : List ℕ) → Done s places n done n masks → Masked s places (λ p. ltb p n) masks
-done-end s places n done masks d b p l = d .right b p l ∙ ap (λ t. t && leafHolds (drop (getD places p 0) s) b) (same (decLt p n))
+pub done-end : (loaded s places : List ℕ) (n done : ℕ) (masks : List ℕ) → Done loaded s places n done n masks → Masked loaded s places (λ p. ltb p n) masks
+done-end loaded s places n done masks d b p l = d .right b p l ∙ ap (λ t. t && leafHolds loaded (drop (getD places p 0) s) b) (same (decLt p n))
   where
     same : Dec (p < n) → hasBit done p ≡ ltb p n
     same (yes k) = d .all p k ∙ sym (lt-ltb p n k)

@@ -12,6 +12,7 @@ use Rattle.theory.specs.Pattern.{eager, lazy, Re, empty, leaf, seq, alt, star, 
 use Rattle.grammar.specs.Code.Tokens.{nodes, Token, nil, both, or, many, byte, tokens}
 use Rattle.grammar.specs.Code.Tokens
 use Rattle.grammar.specs.Code.Codes.{PartKind, anEmpty, aSequence, anAlternation, aStar, aField, aLeaf, partKind, firstField, firstLeaf, leafHolds}
+use Rattle.grammar.proofs.Sets.{bytes-same}
 use Rattle.grammar.proofs.Codes.{kind-star, kind-field, kind-leaf, Kinded, is-empty, is-sequence, is-alternation, is-star, is-field, is-leaf, kinded}
 use Rattle.grammar.proofs.Tokens.{nodes-pos, At, at, at-token, head, seq-right, seq-left, alt-right, alt-left, star-part, field-part, tokens-length}
 use Rattle.words.specs.Sets.{hasBit}
@@ -19,16 +20,16 @@ use Rattle.arrays.specs.Decoded.{middle, partOf, part}
 use Rattle.arrays.specs.Passes.{leftSize, sizeOf, Sized, Masked}
 
 -- The token of a kind.
-abbrev pub tokenAt : List ℕ → List ℕ → PartKind → Token
-tokenAt s places anEmpty = nil
-tokenAt s places aSequence = both
-tokenAt s places anAlternation = or
-tokenAt s places (aStar how) = many how
-tokenAt s places (aField f) = Tokens.field f
-tokenAt s places (aLeaf p) = byte p (λ b. ltb b 256 && leafHolds (drop (getD places p 0) s) b)
+abbrev pub tokenAt : List ℕ → List ℕ → List ℕ → PartKind → Token
+tokenAt loaded s places anEmpty = nil
+tokenAt loaded s places aSequence = both
+tokenAt loaded s places anAlternation = or
+tokenAt loaded s places (aStar how) = many how
+tokenAt loaded s places (aField f) = Tokens.field f
+tokenAt loaded s places (aLeaf p) = byte p (λ b. ltb b 256 && leafHolds loaded (drop (getD places p 0) s) b)
 
-abbrev pub kindToken : List ℕ → List ℕ → ℕ → Token
-kindToken s places k = tokenAt s places (partKind k)
+abbrev pub kindToken : List ℕ → List ℕ → List ℕ → ℕ → Token
+kindToken loaded s places k = tokenAt loaded s places (partKind k)
 
 -- A part by its last token.
 abbrev tokenPart : Token → Re → Re → Re → Re
@@ -48,10 +49,10 @@ tokenSize (many how) a b = a + 1
 tokenSize (Tokens.field f) a b = a + 1
 tokenSize (byte p s) a b = 1
 
-size-token : (s places : List ℕ) (k a b : ℕ) → sizeOf k a b ≡ tokenSize (kindToken s places k) a b
-size-token s places k a b = go (kinded k)
+size-token : (loaded s places : List ℕ) (k a b : ℕ) → sizeOf k a b ≡ tokenSize (kindToken loaded s places k) a b
+size-token loaded s places k a b = go (kinded k)
   where
-    go : {k : ℕ} → Kinded k → sizeOf k a b ≡ tokenSize (kindToken s places k) a b
+    go : {k : ℕ} → Kinded k → sizeOf k a b ≡ tokenSize (kindToken loaded s places k) a b
     go is-empty = refl
     go is-sequence = refl
     go is-alternation = refl
@@ -61,19 +62,11 @@ size-token s places k a b = go (kinded k)
         rw (kind-field n h, ne-eqb (firstField + n) 0 (λ e. omega arith), lt-leb firstLeaf (firstField + n) (omega arith), le-leb 3 (firstField + n) (omega arith))
     go (is-leaf q) = rw (kind-leaf q, ne-eqb (firstLeaf + q) 0 (λ e. omega arith), le-leb firstLeaf (firstLeaf + q) (omega arith))
 
--- Two sets of bytes that agree below 256.
-bytes-same : (s t : ℕ → Bool) → ((b : ℕ) → b < 256 → s b ≡ t b) → _≡_ {A = ℕ → Bool} (λ b. ltb b 256 && s b) (λ b. ltb b 256 && t b)
-bytes-same s t h = fun-ext λ b. go b (ltb b 256) (ltb-true b 256)
+part-token : (loaded s places masks : List ℕ) (n k : ℕ) (whole left right : Re) → Masked loaded s places (λ p. ltb p n) masks → n ≤ 64 → k < firstLeaf + n
+    → partOf masks (partKind k) whole left right ≡ tokenPart (kindToken loaded s places k) whole left right
+part-token loaded s places masks n k whole left right h m b = go (kinded k) b
   where
-    go : (b : ℕ) (c : Bool) → (c ≡ true → b < 256) → (c && s b) ≡ (c && t b)
-    go b true f = h b (f refl)
-    go b false f = refl
-
-part-token : (s places masks : List ℕ) (n k : ℕ) (whole left right : Re) → Masked s places (λ p. ltb p n) masks → n ≤ 64 → k < firstLeaf + n
-    → partOf masks (partKind k) whole left right ≡ tokenPart (kindToken s places k) whole left right
-part-token s places masks n k whole left right h m b = go (kinded k) b
-  where
-    go : {k : ℕ} → Kinded k → k < firstLeaf + n → partOf masks (partKind k) whole left right ≡ tokenPart (kindToken s places k) whole left right
+    go : {k : ℕ} → Kinded k → k < firstLeaf + n → partOf masks (partKind k) whole left right ≡ tokenPart (kindToken loaded s places k) whole left right
     go is-empty b = refl
     go is-sequence b = refl
     go is-alternation b = refl
@@ -82,7 +75,7 @@ part-token s places masks n k whole left right h m b = go (kinded k) b
     go (is-leaf p) b =
         let t : ltb p n ≡ true = lt-ltb p n (omega arith) in
         rw (kind-leaf p, lt-ltb p 64 (omega arith))
-        (ap (leaf p) (bytes-same (λ c. hasBit (getD masks c 0) p) (λ c. leafHolds (drop (getD places p 0) s) c) (λ c l. h c p l ∙ rw t)))
+        (ap (leaf p) (bytes-same (λ c. hasBit (getD masks c 0) p) (λ c. leafHolds loaded (drop (getD places p 0) s) c) (λ c l. h c p l ∙ rw t)))
 
 -- A part that ends at a place of the list stands within it.
 at-fits : {l : List Token} {n : ℕ} {r : Re} → At l n r → (nodes r ≤ suc n) × (n < length l)
@@ -94,10 +87,10 @@ one-more n m = omega arith
 
 -- The arrays, over the tokens l.
 module _
-    (l : List Token) (s places kinds sizes masks : List ℕ) (n leaves : ℕ) (long : length l ≡ n) (most : leaves ≤ 64)
-    (kinds-are : (i : ℕ) → i < n → kindToken s places (getD kinds i 0) ≡ getD l i nil) (below : (i : ℕ) → i < n → getD kinds i 0 < firstLeaf + leaves)
-    (sized : Sized kinds n sizes) (masked : Masked s places (λ p. ltb p leaves) masks) where
-  kind-head : (i : ℕ) (r : Re) → At l i r → kindToken s places (getD kinds i 0) ≡ head r
+    (l : List Token) (loaded s places kinds sizes masks : List ℕ) (n leaves : ℕ) (long : length l ≡ n) (most : leaves ≤ 64)
+    (kinds-are : (i : ℕ) → i < n → kindToken loaded s places (getD kinds i 0) ≡ getD l i nil) (below : (i : ℕ) → i < n → getD kinds i 0 < firstLeaf + leaves)
+    (sized : Sized kinds n sizes) (masked : Masked loaded s places (λ p. ltb p leaves) masks) where
+  kind-head : (i : ℕ) (r : Re) → At l i r → kindToken loaded s places (getD kinds i 0) ≡ head r
   kind-head i r w = kinds-are i (omega (arith, at-fits w .1)) ∙ at-token l i r w
 
   size-head : (i : ℕ) (r : Re) → At l i r → 0 < i → getD sizes i 0 ≡ tokenSize (head r) (getD sizes (i - 1) 0) (leftSize sizes (i - 1))
@@ -105,7 +98,7 @@ module _
   size-head (suc m) r w h =
       let e : suc m - 1 ≡ m = omega arith in
       rw e
-      (sized (suc m) (omega (arith, at-fits w .1)) ∙ size-token s places (getD kinds (suc m) 0) (getD sizes m 0) (leftSize sizes m)
+      (sized (suc m) (omega (arith, at-fits w .1)) ∙ size-token loaded s places (getD kinds (suc m) 0) (getD sizes m 0) (leftSize sizes m)
       ∙ ap (λ t. tokenSize t (getD sizes m 0) (leftSize sizes m)) (kind-head (suc m) r w))
 
   single-size : (i : ℕ) (r : Re) → At l i r → ((a b : ℕ) → tokenSize (head r) a b ≡ 1) → getD sizes i 0 ≡ 1
@@ -143,7 +136,7 @@ module _
       let e : suc last - 1 ≡ last = omega arith in
       let v : At l last r = rw e at w in
       rw (e, le-ltb last low (omega (arith, nodes-pos r)))
-      (part-token s places masks leaves (getD kinds last 0) (part f kinds sizes masks low last) (part f kinds sizes masks low (middle sizes low last))
+      (part-token loaded s places masks leaves (getD kinds last 0) (part f kinds sizes masks low last) (part f kinds sizes masks low (middle sizes low last))
       (part f kinds sizes masks (middle sizes low last) last) masked most (below last (omega (arith, at-fits v .1)))
       ∙ ap (λ t. tokenPart t (part f kinds sizes masks low last) (part f kinds sizes masks low (middle sizes low last))
       (part f kinds sizes masks (middle sizes low last) last)) (kind-head last r v))

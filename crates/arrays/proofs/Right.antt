@@ -25,15 +25,15 @@ use Rattle.arrays.proofs.Numbering.{kinds-below}
 use Rattle.arrays.proofs.Parts.{kindToken, part-right}
 
 -- The kinds of the codes are their tokens with the leaves numbered: a has the places of the p leaves before them.
-renumbered : (s places l a : List ℕ) (p : ℕ) → length a ≡ p → a ++ placesOf l ≡ places → length places ≤ 64
-    → renumber p (map (tokenOf s) l) ≡ map (kindToken s places) (kindsFrom p l)
+renumbered : (loaded s places l a : List ℕ) (p : ℕ) → length a ≡ p → a ++ placesOf l ≡ places → length places ≤ 64
+    → renumber p (map (tokenOf loaded s) l) ≡ map (kindToken loaded s places) (kindsFrom p l)
 unfolding renumber kindsFrom placesOf
-renumbered s places [] a p h e m = refl
-renumbered s places (c ∷ l) a p h e m = go (kinded c) e (renumbered s places l)
+renumbered loaded s places [] a p h e m = refl
+renumbered loaded s places (c ∷ l) a p h e m = go (kinded c) e (renumbered loaded s places l)
   where
     go : {c : ℕ} → Kinded c → a ++ placesOf (c ∷ l) ≡ places
-        → ((a : List ℕ) (p : ℕ) → length a ≡ p → a ++ placesOf l ≡ places → length places ≤ 64 → renumber p (map (tokenOf s) l) ≡ map (kindToken s places) (kindsFrom p l))
-        → renumber p (map (tokenOf s) (c ∷ l)) ≡ map (kindToken s places) (kindsFrom p (c ∷ l))
+        → ((a : List ℕ) (p : ℕ) → length a ≡ p → a ++ placesOf l ≡ places → length places ≤ 64 → renumber p (map (tokenOf loaded s) l) ≡ map (kindToken loaded s places) (kindsFrom p l))
+        → renumber p (map (tokenOf loaded s) (c ∷ l)) ≡ map (kindToken loaded s places) (kindsFrom p (c ∷ l))
     go is-empty e below = ap (λ k. nil ∷ k) (below a p h e m)
     go is-sequence e below = ap (λ k. both ∷ k) (below a p h e m)
     go is-alternation e below = ap (λ k. or ∷ k) (below a p h e m)
@@ -50,7 +50,7 @@ renumbered s places (c ∷ l) a p h e m = go (kinded c) e (renumbered s places l
         let g : getD places p 0 ≡ q = rw (← f) (getD-at a q (placesOf l) 0 p h) in
         let t : p + 1 ≡ suc p = omega arith in
         rw (c, lt-ltb p 64 (omega arith), kind-leaf q, kind-leaf p, t, g)
-        (ap (λ u. byte p (λ b. ltb b 256 && leafHolds (drop q s) b) ∷ u)
+        (ap (λ u. byte p (λ b. ltb b 256 && leafHolds loaded (drop q s) b) ∷ u)
         (below (a ++ (q ∷ [])) (suc p) (omega (arith, length-append a (q ∷ []))) (append-assoc a (q ∷ []) (placesOf l) ∙ f) m))
 
 length-kinds : (p : ℕ) (l : List ℕ) → length (kindsFrom p l) ≡ length l
@@ -58,12 +58,12 @@ unfolding kindsFrom
 length-kinds p [] = refl
 length-kinds p (c ∷ l) = ap suc (length-kinds (leavesWith p c) l)
 
-length-places : (s l : List ℕ) → length (placesOf l) ≡ leafs (map (tokenOf s) l)
+length-places : (loaded s l : List ℕ) → length (placesOf l) ≡ leafs (map (tokenOf loaded s) l)
 unfolding placesOf leafs
-length-places s [] = refl
-length-places s (c ∷ l) = go (kinded c) (length-places s l)
+length-places loaded s [] = refl
+length-places loaded s (c ∷ l) = go (kinded c) (length-places loaded s l)
   where
-    go : {c : ℕ} → Kinded c → length (placesOf l) ≡ leafs (map (tokenOf s) l) → length (placesOf (c ∷ l)) ≡ leafs (map (tokenOf s) (c ∷ l))
+    go : {c : ℕ} → Kinded c → length (placesOf l) ≡ leafs (map (tokenOf loaded s) l) → length (placesOf (c ∷ l)) ≡ leafs (map (tokenOf loaded s) (c ∷ l))
     go is-empty e = e
     go is-sequence e = e
     go is-alternation e = e
@@ -73,10 +73,10 @@ length-places s (c ∷ l) = go (kinded c) (length-places s l)
     go (is-leaf q) e = rw (kind-leaf q, le-ltb (firstLeaf + q) firstLeaf (omega arith)) (ap suc e)
 
 -- Only the places of the leaves count.
-masked-taken : (s places masks : List ℕ) (n : ℕ) → Masked s places (λ p. ltb p n) masks → Masked s (take n places) (λ p. ltb p n) masks
-masked-taken s places masks n h b p l = h b p l ∙ go (ltb p n) (ltb-true p n)
+masked-taken : (loaded s places masks : List ℕ) (n : ℕ) → Masked loaded s places (λ p. ltb p n) masks → Masked loaded s (take n places) (λ p. ltb p n) masks
+masked-taken loaded s places masks n h b p l = h b p l ∙ go (ltb p n) (ltb-true p n)
   where
-    go : (t : Bool) → (t ≡ true → p < n) → (t && leafHolds (drop (getD places p 0) s) b) ≡ (t && leafHolds (drop (getD (take n places) p 0) s) b)
+    go : (t : Bool) → (t ≡ true → p < n) → (t && leafHolds loaded (drop (getD places p 0) s) b) ≡ (t && leafHolds loaded (drop (getD (take n places) p 0) s) b)
     go true f = rw (getD-take n places p 0 (f refl))
     go false f = refl
 
@@ -89,50 +89,50 @@ take-within len l = go (decLt len (length l))
 
 -- The passes over the codes l.
 module _
-    (s l places kinds sizes masks : List ℕ) (n leaves : ℕ) (long : length l ≡ n) (numbered : Numbered l (take n kinds) places leaves) (sized : Sized kinds n sizes)
-    (masked : Masked s places (λ p. ltb p leaves) masks) (r : Re) (is : map (tokenOf s) l ≡ tokens r) (room : count r ≤ 64) where
+    (loaded s l places kinds sizes masks : List ℕ) (n leaves : ℕ) (long : length l ≡ n) (numbered : Numbered l (take n kinds) places leaves) (sized : Sized kinds n sizes)
+    (masked : Masked loaded s places (λ p. ltb p leaves) masks) (r : Re) (is : map (tokenOf loaded s) l ≡ tokens r) (room : count r ≤ 64) where
   count-is : length (placesOf l) ≡ count r
-  count-is = length-places s l ∙ ap leafs is ∙ leafs-tokens r
+  count-is = length-places loaded s l ∙ ap leafs is ∙ leafs-tokens r
 
   places-are : take leaves places ≡ placesOf l
   places-are = numbered .at ∙ take-all 64 (placesOf l) (omega (arith, count-is))
 
-  tokens-are : tokens (number 0 r) ≡ map (kindToken s (placesOf l)) (kindsFrom 0 l)
-  tokens-are = tokens-number 0 r ∙ ap (renumber 0) (sym is) ∙ renumbered s (placesOf l) l [] 0 refl refl (omega (arith, count-is))
+  tokens-are : tokens (number 0 r) ≡ map (kindToken loaded s (placesOf l)) (kindsFrom 0 l)
+  tokens-are = tokens-number 0 r ∙ ap (renumber 0) (sym is) ∙ renumbered loaded s (placesOf l) l [] 0 refl refl (omega (arith, count-is))
 
   kind-is : (i : ℕ) → i < n → getD kinds i 0 ≡ getD (kindsFrom 0 l) i 0
   kind-is i h = sym (getD-take n kinds i 0 h) ∙ ap (λ k. getD k i 0) (numbered .are)
 
   nodes-are : nodes (number 0 r) ≡ n
-  nodes-are = sym (tokens-length (number 0 r)) ∙ ap length tokens-are ∙ length-map (kindsFrom 0 l) (kindToken s (placesOf l)) ∙ length-kinds 0 l ∙ long
+  nodes-are = sym (tokens-length (number 0 r)) ∙ ap length tokens-are ∙ length-map (kindsFrom 0 l) (kindToken loaded s (placesOf l)) ∙ length-kinds 0 l ∙ long
 
   leaves-are : leaves ≡ count r
   leaves-are = omega (arith, numbered .counted, count-is)
 
   arrays-right : part n kinds sizes masks 0 n ≡ number 0 r
   arrays-right =
-      part-right (tokens (number 0 r)) s (placesOf l) kinds sizes masks n leaves (tokens-length (number 0 r) ∙ nodes-are) (omega (arith, leaves-are))
-      (λ i h. ap (kindToken s (placesOf l)) (kind-is i h) ∙ sym (List·getD-map (kindToken s (placesOf l)) (kindsFrom 0 l) i 0) ∙ ap (λ k. getD k i nil) (sym tokens-are))
+      part-right (tokens (number 0 r)) loaded s (placesOf l) kinds sizes masks n leaves (tokens-length (number 0 r) ∙ nodes-are) (omega (arith, leaves-are))
+      (λ i h. ap (kindToken loaded s (placesOf l)) (kind-is i h) ∙ sym (List·getD-map (kindToken loaded s (placesOf l)) (kindsFrom 0 l) i 0) ∙ ap (λ k. getD k i nil) (sym tokens-are))
       (λ i h. rw (kind-is i h) (omega (arith, kinds-below 0 l i, leaves-are, count-is)))
-      sized (rw places-are at (masked-taken s places masks leaves masked)) (number 0 r) n 0 n
+      sized (rw places-are at (masked-taken loaded s places masks leaves masked)) (number 0 r) n 0 n
       (at-whole (number 0 r) (n - 1) (omega (arith, nodes-are, nodes-pos (number 0 r)))) (omega (arith, nodes-are)) (omega (arith, nodes-are))
 
   -- As many places as the pattern has parts, and its leaves.
   pub arrays-measured : (n ≡ nodes r) × (leaves ≡ count r)
-  arrays-measured = (sym long ∙ sym (length-map l (tokenOf s)) ∙ ap length is ∙ tokens-length r, leaves-are)
+  arrays-measured = (sym long ∙ sym (length-map l (tokenOf loaded s)) ∙ ap length is ∙ tokens-length r, leaves-are)
 
 -- The three passes over the first n codes, as many as there are up to len.
-pub finished : (s codes places kinds sizes masks : List ℕ) (len n leaves : ℕ) → n ≡ min len (length codes)
-    → Numbered (take n codes) (take n kinds) places leaves → Sized kinds n sizes → Masked s places (λ p. ltb p leaves) masks
-    → Finished s (take len codes) (record { kinds = kinds; sizes = sizes; len = n; masks = masks; leaves = leaves })
+pub finished : (loaded s codes places kinds sizes masks : List ℕ) (len n leaves : ℕ) → n ≡ min len (length codes)
+    → Numbered (take n codes) (take n kinds) places leaves → Sized kinds n sizes → Masked loaded s places (λ p. ltb p leaves) masks
+    → Finished loaded s (take len codes) (record { kinds = kinds; sizes = sizes; len = n; masks = masks; leaves = leaves })
 unfolding decode
-finished s codes places kinds sizes masks len n leaves e numbered sized masked r is room =
+finished loaded s codes places kinds sizes masks len n leaves e numbered sized masked r is room =
     let same : take len codes ≡ take n codes = rw e (take-within len codes) in
     let long = length-take-le n codes (omega arith) in
-    let (parts, counted) = arrays-measured s (take n codes) places kinds sizes masks n leaves long numbered sized masked r (rw same at is) room in
+    let (parts, counted) = arrays-measured loaded s (take n codes) places kinds sizes masks n leaves long numbered sized masked r (rw same at is) room in
     record {
-      decodes = arrays-right s (take n codes) places kinds sizes masks n leaves long numbered sized masked r (rw same at is) room;
+      decodes = arrays-right loaded s (take n codes) places kinds sizes masks n leaves long numbered sized masked r (rw same at is) room;
       parts = parts ∙ sym (number-nodes 0 r);
       leaves = counted ∙ sym (number-count 0 r);
-      spare = λ b p h l. masked b p h ∙ ap (λ t. t && leafHolds (drop (getD places p 0) s) b) (le-ltb p leaves l);
+      spare = λ b p h l. masked b p h ∙ ap (λ t. t && leafHolds loaded (drop (getD places p 0) s) b) (le-ltb p leaves l);
     }

@@ -19,6 +19,7 @@ pub record HoldsPattern (x : Pattern) (r : Re) : Type 0 where
   pub leaves : x .leaves ≡ count r
   pub spare : (b p : ℕ) → b < 256 → x .leaves ≤ p → hasBit (getD (x .masks) b 0) p ≡ false
 
--- The codes l of the pattern p made into the arrays x: where they are the tokens of a pattern r of at most 64 leaves, x is r with its leaves numbered.
-abbrev pub Finished : List ℕ → List ℕ → Pattern → Type 0
-Finished p l x = (r : Re) → map (tokenOf p) l ≡ tokens r → count r ≤ 64 → HoldsPattern x (number 0 r)
+-- The codes l of the pattern p made into the arrays x, by the table of named sets that is loaded: where they are the tokens of a pattern r of at most 64 leaves, x is r with
+-- its leaves numbered.
+abbrev pub Finished : List ℕ → List ℕ → List ℕ → Pattern → Type 0
+Finished loaded p l x = (r : Re) → map (tokenOf loaded p) l ≡ tokens r → count r ≤ 64 → HoldsPattern x (number 0 r)

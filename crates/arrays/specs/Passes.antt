@@ -68,24 +68,24 @@ Sized kinds n sizes = (i : ℕ) → i < n → getD sizes i 0 ≡ sizeAt (getD ki
 abbrev pub Places : List ℕ → ℕ → ℕ → ℕ → Type 0
 Places places n q r = (p : ℕ) → hasBit r p ≡ (ltb p n && eqb (getD places p 0) q)
 
--- and r is x, with the leaves m if the set at the place q holds the byte b.
-abbrev pub Marked : List ℕ → ℕ → ℕ → ℕ → ℕ → ℕ → Type 0
-Marked s q m b x r = (p : ℕ) → hasBit r p ≡ (hasBit x p || (leafHolds (drop q s) b && hasBit m p))
+-- and r is x, with the leaves m if the set at the place q, by the table that is loaded, holds the byte b.
+abbrev pub Marked : List ℕ → List ℕ → ℕ → ℕ → ℕ → ℕ → ℕ → Type 0
+Marked loaded s q m b x r = (p : ℕ) → hasBit r p ≡ (hasBit x p || (leafHolds loaded (drop q s) b && hasBit m p))
 
 -- The masks of the bytes below b are marked so, and the others are those of before.
-pub record MarkedTo (s : List ℕ) (q m b : ℕ) (before masks : List ℕ) : Type 0 where
+pub record MarkedTo (loaded s : List ℕ) (q m b : ℕ) (before masks : List ℕ) : Type 0 where
   pub long : length masks ≡ 256
-  pub marked : (k : ℕ) → k < b → Marked s q m k (getD before k 0) (getD masks k 0)
+  pub marked : (k : ℕ) → k < b → Marked loaded s q m k (getD before k 0) (getD masks k 0)
   pub kept : (k : ℕ) → b ≤ k → getD masks k 0 ≡ getD before k 0
 
 -- The masks of the leaves that are done.
-abbrev pub Masked : List ℕ → List ℕ → (ℕ → Bool) → List ℕ → Type 0
-Masked s places done masks = (b p : ℕ) → b < 256 → hasBit (getD masks b 0) p ≡ (done p && leafHolds (drop (getD places p 0) s) b)
+abbrev pub Masked : List ℕ → List ℕ → List ℕ → (ℕ → Bool) → List ℕ → Type 0
+Masked loaded s places done masks = (b p : ℕ) → b < 256 → hasBit (getD masks b 0) p ≡ (done p && leafHolds loaded (drop (getD places p 0) s) b)
 
 -- A turn at the leaf p of n: more leaves are done, and p among them.
-pub record Turn (s places : List ℕ) (n done p : ℕ) (masks masks′ : List ℕ) (done′ : ℕ) : Type 0 where
+pub record Turn (loaded s places : List ℕ) (n done p : ℕ) (masks masks′ : List ℕ) (done′ : ℕ) : Type 0 where
   pub long : length masks′ ≡ 256
-  pub kept : Masked s places (hasBit done) masks → Masked s places (hasBit done′) masks′
+  pub kept : Masked loaded s places (hasBit done) masks → Masked loaded s places (hasBit done′) masks′
   pub more : (k : ℕ) → hasBit done k ≡ true → hasBit done′ k ≡ true
   pub here : hasBit done′ p ≡ true
   pub only : ((k : ℕ) → hasBit done k ≡ true → k < n) → (k : ℕ) → hasBit done′ k ≡ true → k < n

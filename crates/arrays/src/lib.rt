@@ -188,25 +188,25 @@ fn leaves_at(places: &[u16; 64], n: usize, q: u16) -> u64
     x
 }
 
-// The mask x of the byte b, with the leaves m if the set of the leaf at q holds it.
-fn mark(s: &[u8], q: usize, m: u64, b: usize, x: u64) -> u64
+// The mask x of the byte b, with the leaves m if the set of the leaf at q holds it. The named sets are those of the table that is loaded.
+fn mark(loaded: &[u8], s: &[u8], q: usize, m: u64, b: usize, x: u64) -> u64
     requires { ⌜ b < 256 ⌝ }
-    ensures { λ r. ⌜ Marked (now (s .entry)) q m b x r ⌝ }
+    ensures { λ r. ⌜ Marked (now (loaded .entry)) (now (s .entry)) q m b x r ⌝ }
 {
-    if scanner::leaf_holds(s, q, b as u8) {
+    if scanner::leaf_holds(loaded, s, q, b as u8) {
         return words::union(x, m);
     }
     x
 }
 
 // The same for each byte.
-fn mark_all(s: &[u8], q: usize, m: u64, masks: &mut [u64; 256])
+fn mark_all(loaded: &[u8], s: &[u8], q: usize, m: u64, masks: &mut [u64; 256])
     requires { ⌜ length (now masks) ≡ 256 ⌝ }
-    ensures { λ _. ⌜ MarkedTo (now (s .entry)) q m 256 (now (masks .entry)) (now (masks .exit)) ⌝ }
+    ensures { λ _. ⌜ MarkedTo (now (loaded .entry)) (now (s .entry)) q m 256 (now (masks .entry)) (now (masks .exit)) ⌝ }
 {
     let mut b = 0;
     while b < 256 {
-        let x = mark(s, q, m, b, masks[b]);
+        let x = mark(loaded, s, q, m, b, masks[b]);
         masks[b] = x;
         b += 1;
     }
@@ -214,6 +214,7 @@ fn mark_all(s: &[u8], q: usize, m: u64, masks: &mut [u64; 256])
 
 // The third pass, at the leaf p, with all leaves that have its set: those that are done now.
 fn mark_leaf(
+    loaded: &[u8],
     s: &[u8],
     places: &[u16; 64],
     n: usize,
@@ -222,27 +223,27 @@ fn mark_leaf(
     masks: &mut [u64; 256],
 ) -> u64
     requires { ⌜ (n ≤ 64) × (p < n) × (length (now masks) ≡ 256) ⌝ }
-    ensures { λ r. ⌜ Turn (now (s .entry)) (now (places .entry)) n done p (now (masks .entry)) (now (masks .exit)) r ⌝ }
+    ensures { λ r. ⌜ Turn (now (loaded .entry)) (now (s .entry)) (now (places .entry)) n done p (now (masks .entry)) (now (masks .exit)) r ⌝ }
 {
     if words::has(done, p) {
         return done;
     }
     let q = places[p];
     let m = leaves_at(places, n, q);
-    mark_all(s, words::wide_u16(q), m, masks);
+    mark_all(loaded, s, words::wide_u16(q), m, masks);
     words::union(done, m)
 }
 
 // The masks of the first n leaves.
-fn masks_of(s: &[u8], places: &[u16; 64], n: usize) -> [u64; 256]
+fn masks_of(loaded: &[u8], s: &[u8], places: &[u16; 64], n: usize) -> [u64; 256]
     requires { ⌜ n ≤ 64 ⌝ }
-    ensures { λ r. ⌜ Masked (now (s .entry)) (now (places .entry)) (λ p. ltb p n) r ⌝ }
+    ensures { λ r. ⌜ Masked (now (loaded .entry)) (now (s .entry)) (now (places .entry)) (λ p. ltb p n) r ⌝ }
 {
     let mut masks = [0u64; 256];
     let mut done = 0u64;
     let mut p = 0;
     while p < n {
-        done = mark_leaf(s, places, n, done, p, &mut masks);
+        done = mark_leaf(loaded, s, places, n, done, p, &mut masks);
         p += 1;
     }
     masks
@@ -256,9 +257,9 @@ fn within(codes: &Codes, len: usize) -> usize
     if len < all.len() { len } else { all.len() }
 }
 
-// The pattern whose codes for the text s are the first len ones: its leaves are numbered from 0, left to right.
-pub fn finish(s: &[u8], codes: &Codes, len: usize) -> Pattern
-    ensures finished { λ r. ⌜ Finished (now (s .entry)) (take len (now (codes .entry))) r ⌝ }
+// The pattern whose codes for the text s are the first len ones, by the table of named sets that is loaded: its leaves are numbered from 0, left to right.
+pub fn finish(loaded: &[u8], s: &[u8], codes: &Codes, len: usize) -> Pattern
+    ensures finished { λ r. ⌜ Finished (now (loaded .entry)) (now (s .entry)) (take len (now (codes .entry))) r ⌝ }
 {
     let n = within(codes, len);
     let mut kinds = [0u8; Pattern::MAX_PARTS];
@@ -266,7 +267,7 @@ pub fn finish(s: &[u8], codes: &Codes, len: usize) -> Pattern
     let mut places = [0u16; 64];
     let leaves = number_leaves(codes, n, &mut kinds, &mut places);
     fill_sizes(&kinds, n, &mut sizes);
-    let masks = masks_of(s, &places, leaves);
+    let masks = masks_of(loaded, s, &places, leaves);
     Pattern {
         kinds,
         sizes,

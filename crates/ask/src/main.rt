@@ -1,25 +1,131 @@
 // Answers what the front end asks. The first word of the input says what.
-// 'fields ': after it come a pattern line and order lines, as for `match_lines`; for each order line the greedy span with its fields, 'none' or a refusal (request 2). A
-// refused pattern prints its refusal only.
+// 'spans ': after it come a pattern line and order lines, as for `match_lines`, and what it prints.
+// 'fields ': the same, and for each order line the greedy span with its fields, 'none' or a refusal (request 2). A refused pattern prints its refusal only.
 // 'groups' on a line of its own: each further line is a pattern; for each the number of each byte's group (request 3), or its refusal.
 // 'looking' on a line of its own: each further line is a pattern; for each how much looking its check took (request 4), and then what `explain_patterns` prints:
 // 'looks 9 comparisons 18 unlike 4 6162 greedy 0 1 posix 0 2 readable 6162'.
 // 'details' on a line of its own: the same, and before it how long a match of the pattern can be (request 6), unless it is refused: 'least 1 greatest 2 looks 9 ..', or
 // 'least 1 no limit looks 9 ..'.
+// 'table' on a line of its own: the table of named sets that is loaded, in hex, or its refusal. Nothing more is read.
+// Before the word 'sets ', a table of named sets in lower-case hex and a space may stand: the table is loaded in place of the fixed one (request 9).
 // Another word prints 'unknown'. Lines may have any length; input and output go by chunks, so memory stays the same. What is known is printed before more is read.
 // A failed read or write ends the program with a line on standard error.
 ghost use mathlib.Core.Path.{_≡_};
+ghost use mathlib.Core.Bool.{true};
+ghost use Rattle.ask.specs.Hex.{isHex, hexValue, FromHex};
 use answers::Asked;
 use lines::KEPT;
 use lines::SIZE;
 use lines::State;
 use reader::Answer;
+use sets::Checked;
+
+// No line that is kept has more entries in hex.
+const ENTRIES: usize = 512;
+
+// A hex digit: 0 to 9 or a to f.
+fn is_hex(b: u8) -> bool
+    ensures { λ r. ⌜ r ≡ isHex b ⌝ }
+{
+    match b {
+        b'0'..=b'9' => true,
+        b'a'..=b'f' => true,
+        _ => false,
+    }
+}
+
+fn value(b: u8) -> u8
+    requires { ⌜ isHex b ≡ true ⌝ }
+    ensures { λ r. ⌜ r ≡ hexValue b ⌝ }
+{
+    if b <= b'9' {
+        return b - b'0';
+    }
+    b - b'a' + 10
+}
+
+// The entries that a text begins with: how many.
+fn from_hex(text: &[u8], table: &mut [u8; ENTRIES]) -> usize
+    ensures { λ r. ⌜ FromHex (now (text .entry)) (now (table .exit)) r ⌝ }
+{
+    let end = words::length_of(table);
+    let mut n = 0;
+    let mut i = 1;
+    while i < text.len() && n < end {
+        if !is_hex(text[i - 1]) {
+            return n;
+        }
+        if !is_hex(text[i]) {
+            return n;
+        }
+        table[n] = 16 * value(text[i - 1]) + value(text[i]);
+        n += 1;
+        i += 2;
+    }
+    n
+}
+
+// The first n entries of a table.
+fn first_entries(table: &[u8; ENTRIES], n: usize) -> &[u8] {
+    lines::first_of(table, n)
+}
+
+// Prepares the pattern after the first `skip` bytes of the line, for its fields or for both spans.
+fn prepare(
+    loaded: &[u8],
+    line: &[u8; KEPT],
+    first: State,
+    skip: usize,
+    brackets: bool,
+    masks: &mut [u64; 256],
+    rows: &mut [u8; 4225],
+    lens: &mut [u8; 65],
+    sets: &mut [u64; 65],
+    ends: &mut [u8; 65],
+    next: &mut [u64; 257],
+    hows: &mut [u8; 10],
+    marks: &mut [u16; 4225],
+) -> fields::Prepared {
+    if brackets {
+        return orders::prepare_fields(
+            loaded,
+            line,
+            first,
+            skip,
+            masks,
+            rows,
+            lens,
+            sets,
+            ends,
+            next,
+            hows,
+            marks,
+        );
+    }
+    let answer = orders::prepare(
+        loaded,
+        line,
+        first,
+        skip,
+        masks,
+        rows,
+        lens,
+        sets,
+        ends,
+        next,
+        hows,
+    );
+    fields::Prepared { answer, count: 0 }
+}
 
 // Prepares the pattern after the word, and prints its refusal or answers the order lines. Nothing waits then.
-fn serve_fields(
+fn serve_orders(
+    loaded: &[u8],
     chunk: &mut [u8; SIZE],
     line: &mut [u8; KEPT],
     out: &mut [u8; SIZE],
+    skip: usize,
+    brackets: bool,
     first: State,
 ) -> State
     ensures { λ r. ⌜ r .used ≡ 0 ⌝ }
@@ -32,10 +138,12 @@ fn serve_fields(
     let mut next = [0u64; 257];
     let mut hows = [0u8; 10];
     let mut marks = [0u16; 4225];
-    let ready = orders::prepare_fields(
+    let ready = prepare(
+        loaded,
         line,
         first,
-        7,
+        skip,
+        brackets,
         &mut masks,
         &mut rows,
         &mut lens,
@@ -52,7 +160,7 @@ fn serve_fields(
             chunk,
             line,
             out,
-            true,
+            brackets,
             count,
             &masks,
             &rows,
@@ -72,6 +180,7 @@ fn serve_fields(
 
 // Answers what is asked for the patterns on the lines after the first. Nothing waits then.
 fn serve_patterns(
+    loaded: &[u8],
     chunk: &mut [u8; SIZE],
     line: &mut [u8; KEPT],
     out: &mut [u8; SIZE],
@@ -84,6 +193,7 @@ fn serve_patterns(
     let mut witness = [0u8; answers::WITNESS];
     let mut area = [0u8; answers::AREA];
     answers::run(
+        loaded,
         chunk,
         line,
         out,
@@ -95,25 +205,88 @@ fn serve_patterns(
     )
 }
 
-// The first line's word decides.
-fn serve(chunk: &mut [u8; SIZE], line: &mut [u8; KEPT], out: &mut [u8; SIZE], first: State) -> State
+// Nothing is known by that word.
+fn unknown(out: &mut [u8; SIZE], first: State) -> State
     ensures { λ r. ⌜ r .used ≡ 0 ⌝ }
 {
-    if lines::begins_with(lines::first_of(line, first.n), b"fields ") {
-        return serve_fields(chunk, line, out, first);
-    }
-    if first.n == 6 && lines::begins_with(lines::first_of(line, first.n), b"groups") {
-        return serve_patterns(chunk, line, out, Asked::Groups, first);
-    }
-    if first.n == 7 && lines::begins_with(lines::first_of(line, first.n), b"looking") {
-        return serve_patterns(chunk, line, out, Asked::Looking, first);
-    }
-    if first.n == 7 && lines::begins_with(lines::first_of(line, first.n), b"details") {
-        return serve_patterns(chunk, line, out, Asked::Details, first);
-    }
     let mut s = first;
     s.used = printing::text(out, 0, b"unknown");
     lines::write_out(out, s)
+}
+
+// Appends the table to the output, which holds nothing, or the refusal of one that fails.
+fn table_line(loaded: &[u8], out: &mut [u8; SIZE]) -> usize {
+    let check = sets::check(loaded);
+    let Checked::Faulty { place } = check else {
+        return printing::bytes(out, 0, loaded);
+    };
+    printing::refused(out, 0, 14, place)
+}
+
+// Prints the table, or its refusal. Nothing waits then.
+fn serve_table(loaded: &[u8], out: &mut [u8; SIZE], first: State) -> State
+    ensures { λ r. ⌜ r .used ≡ 0 ⌝ }
+{
+    let mut s = first;
+    s.used = table_line(loaded, out);
+    lines::write_out(out, s)
+}
+
+// Whether the first line goes on with the word at a place, and ends there.
+fn is_word<'a>(line: &'a [u8; KEPT], first: State, at: usize, word: &'a [u8]) -> bool {
+    let rest = lines::past_first(lines::first_of(line, first.n), at);
+    rest.len() == word.len() && lines::begins_with(rest, word)
+}
+
+// The word at a place of the first line decides.
+fn serve_word(
+    loaded: &[u8],
+    chunk: &mut [u8; SIZE],
+    line: &mut [u8; KEPT],
+    out: &mut [u8; SIZE],
+    at: usize,
+    first: State,
+) -> State
+    ensures { λ r. ⌜ r .used ≡ 0 ⌝ }
+{
+    let rest = lines::past_first(lines::first_of(line, first.n), at);
+    if lines::begins_with(rest, b"spans ") {
+        return serve_orders(loaded, chunk, line, out, at + 6, false, first);
+    }
+    if lines::begins_with(rest, b"fields ") {
+        return serve_orders(loaded, chunk, line, out, at + 7, true, first);
+    }
+    if is_word(line, first, at, b"groups") {
+        return serve_patterns(loaded, chunk, line, out, Asked::Groups, first);
+    }
+    if is_word(line, first, at, b"looking") {
+        return serve_patterns(loaded, chunk, line, out, Asked::Looking, first);
+    }
+    if is_word(line, first, at, b"details") {
+        return serve_patterns(loaded, chunk, line, out, Asked::Details, first);
+    }
+    if is_word(line, first, at, b"table") {
+        return serve_table(loaded, out, first);
+    }
+    unknown(out, first)
+}
+
+// With the table of named sets that the first line begins with, or the fixed one.
+fn serve(chunk: &mut [u8; SIZE], line: &mut [u8; KEPT], out: &mut [u8; SIZE], first: State) -> State
+    ensures { λ r. ⌜ r .used ≡ 0 ⌝ }
+{
+    let text = lines::first_of(line, first.n);
+    if !lines::begins_with(text, b"sets ") {
+        let fixed = sets::fixed();
+        return serve_word(&fixed, chunk, line, out, 0, first);
+    }
+    let mut table = [0u8; ENTRIES];
+    let n = from_hex(lines::past_first(text, 5), &mut table);
+    let end = 5 + 2 * n;
+    if !lines::begins_with(lines::past_first(text, end), b" ") {
+        return unknown(out, first);
+    }
+    serve_word(first_entries(&table, n), chunk, line, out, end + 1, first)
 }
 
 fn main() {

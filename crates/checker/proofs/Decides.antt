@@ -14,7 +14,7 @@ use Rattle.theory.specs.Records.{Unlike}
 use Rattle.theory.proofs.Lines.{snoc-size, snoc-last}
 use Rattle.theory.proofs.Records.{search-records}
 use Rattle.grammar.specs.Grammar.{Alternation}
-use Rattle.grammar.specs.Limits.{Reads}
+use Rattle.grammar.specs.Loaded.{Accepts}
 use Rattle.grammar.specs.WriteOut.{writeOut}
 use Rattle.verdict.specs.Record.{formOf, narrow}
 use Rattle.verdict.specs.Table.{records, slots, onto}
@@ -68,17 +68,17 @@ module _ {r : Re} (d : Numbered 0 r) (most : count r ≤ 64) {t₀ : List ℕ} {
   few : length (x .lines) < slots (formOf r) (length t₀)
   few = omega (arith, x .holds .fits, snoc-size (x .lines) (x .line))
 
-module _ {p : List ℕ} {a : Alternation} (reads : Reads p a) (d : Numbered 0 (writeOut a)) (most : count (writeOut a) ≤ 64) {t v t′ : List ℕ} where
+module _ {loaded p : List ℕ} {a : Alternation} (reads : Accepts loaded p a) (d : Numbered 0 (writeOut loaded a)) (most : count (writeOut loaded a) ≤ 64) {t v t′ : List ℕ} where
   -- No witness: alike.
-  pub found-alike : {n : ℕ} → AllFound (writeOut a) t n t′ → Found p t v (alike n) t′ v
+  pub found-alike : {n : ℕ} → AllFound (writeOut loaded a) t n t′ → Found loaded p t v (alike n) t′ v
   found-alike x = same-cuts reads (x .alike) (x .holds .fits) (ap alike (sym (x .size))) (x .holds .table) refl
 
   -- No slot for the next record: 10.
-  pub found-full : SlotsFull (writeOut a) t t′ → Found p t v (refused 10 0) t′ v
+  pub found-full : SlotsFull (writeOut loaded a) t t′ → Found loaded p t v (refused 10 0) t′ v
   found-full x = no-slot reads (x .full) (x .size) refl (x .holds .table) refl
 
   -- A witness: unlike, or 11.
-  pub found-witness : {n : ℕ} {y : Verdict} {v′ : List ℕ} → WitnessFound (writeOut a) t n t′ → Handed (formOf (writeOut a) .bytes) t′ n v y v′ → Found p t v (resultOf y) t′ v′
+  pub found-witness : {n : ℕ} {y : Verdict} {v′ : List ℕ} → WitnessFound (writeOut loaded a) t n t′ → Handed (formOf (writeOut loaded a) .bytes) t′ n v y v′ → Found loaded p t v (resultOf y) t′ v′
   found-witness {n} x (given {w = w} l h) =
       let e : w ≡ x .line = line-one l (last-line d most x) in
       first-witness reads (first d most x) (few d most x) (subst (λ u. length u ≤ length v) e h) (ap₂ unlike (sym (x .size)) (ap length e)) (x .holds .table) (ap (onto v) e)
@@ -109,7 +109,7 @@ module _ {a : Arrays} {m : ℕ} {t : List ℕ} {c : Course} {t′ : List ℕ} (s
 -- The area is too short.
 pub decides-short : {x : Pattern} {t v s s′ : List ℕ} {y : Looking} → y ≡ noLooking → (length s < areaBytes) × (s′ ≡ s) → Decides x t v s (record { verdict = Refused 13 0; looking = y }) t v s′
 decides-short {t = t} {v = v} {s = s} e (l, k) =
-    record { reports = λ {p} reads f. record { checks = subst (Checked p t v s (whole (refused 13 0) t v)) (sym k) (by-area reads l); looks = subst (LooksFor p t s) (sym e) (unsearched reads (inl l)) } }
+    record { reports = λ {loaded} {p} reads f. record { checks = subst (Checked loaded p t v s (whole (refused 13 0) t v)) (sym k) (by-area reads l); looks = subst (LooksFor loaded p t s) (sym e) (unsearched reads (inl l)) } }
 
 -- Of an accepted pattern's arrays.
 module _ {x : Pattern} {tables : Tables} (sound : Sound x) (right : Right (decode x) tables) where
@@ -122,9 +122,9 @@ module _ {x : Pattern} {tables : Tables} (sound : Sound x) (right : Right (decod
   -- The test passes,
   pub decides-passes : {t v s s′ : List ℕ} {y : Looking} → y ≡ noLooking → Ran (x .masks) (tables .sets) (tables .ends) s s′ NoneExtends → Decides x t v s (record { verdict = Alike 0; looking = y }) t v s′
   decides-passes {t} {v} {s} e ran = record {
-    reports = λ {p} reads f.
+    reports = λ {loaded} {p} reads f.
         let none = subst NoneExtends f (ran .says lent-here) in
-        record { checks = subst (Checked p t v s (whole (alike 0) t v)) (sym (ran .area)) (by-test reads (ran .room) none); looks = subst (LooksFor p t s) (sym e) (unsearched reads (inr none)) };
+        record { checks = subst (Checked loaded p t v s (whole (alike 0) t v)) (sym (ran .area)) (by-test reads (ran .room) none); looks = subst (LooksFor loaded p t s) (sym e) (unsearched reads (inr none)) };
   }
 
   module _ {m : ℕ} (width : m ≡ narrow (min (x .leaves) 64) .bytes) where
@@ -138,24 +138,24 @@ module _ {x : Pattern} {tables : Tables} (sound : Sound x) (right : Right (decod
     -- or it fails, and the records say what they say.
     pub decides-fails : {t v s s′ : List ℕ} {y : Report} {t′ v′ : List ℕ} → Ran (x .masks) (tables .sets) (tables .ends) s s′ (λ r. NoneExtends r → ⊥) → Recorded lent-arrays m t v y t′ v′ → Decides x t v s y t′ v′ s′
     decides-fails {t} {v} {s} {y = y} {t′ = t′} {v′ = v′} ran rec = record {
-      reports = λ {p} {a} reads f.
+      reports = λ {loaded} {p} {a} reads f.
           let fails = subst (λ r. NoneExtends r → ⊥) f (ran .says lent-here) in
           let here = subst (λ r. Lent r lent-arrays) f lent-here in
           let wide = subst (λ r. m ≡ formOf r .bytes) f width-right in
           record {
-            checks = subst (Checked p t v s (whole (resultOf (y .verdict)) t′ v′)) (sym (ran .area))
-                (by-table reads (ran .room) fails (tabled-exactly p t v (resultOf (y .verdict)) t′ v′ .1 (rec .found reads here wide)));
+            checks = subst (Checked loaded p t v s (whole (resultOf (y .verdict)) t′ v′)) (sym (ran .area))
+                (by-table reads (ran .room) fails (tabled-exactly loaded p t v (resultOf (y .verdict)) t′ v′ .1 (rec .found reads here wide)));
             looks = LooksFor.searched reads (ran .room) fails (rec .looks here wide);
           };
     }
 
 -- Of the reader's answer.
-module _ {p : List ℕ} {r : Reading} (h : ReadRight p r) where
+module _ {loaded p : List ℕ} {r : Reading} (h : ReadRight loaded p r) where
   pub accepted-sound : r .answer ≡ Accepted → Sound (r .pattern)
   accepted-sound e = record { numbered = accepted-leaves h e .0; most = accepted-leaves h e .1; holds = accepted-holds h e }
 
-  pub reports-accepted : {t v s t′ v′ s′ : List ℕ} (y : Report) → r .answer ≡ Accepted → Decides (r .pattern) t v s y t′ v′ s′ → Reports p t v s y t′ v′ s′
+  pub reports-accepted : {t v s t′ v′ s′ : List ℕ} (y : Report) → r .answer ≡ Accepted → Decides (r .pattern) t v s y t′ v′ s′ → Reports loaded p t v s y t′ v′ s′
   reports-accepted y e d = let (a, reads, f) = accepted-reads h e in d .reports reads f
 
-  pub reports-refused : {t v s : List ℕ} {n k : ℕ} {y : Looking} → y ≡ noLooking → r .answer ≡ Answer.Refused n k → Reports p t v s (record { verdict = Refused n k; looking = y }) t v s
-  reports-refused {t} {v} {s} e f = record { checks = by-fault (refused-fault h f); looks = subst (LooksFor p t s) (sym e) (unread (refused-fault h f)) }
+  pub reports-refused : {t v s : List ℕ} {n k : ℕ} {y : Looking} → y ≡ noLooking → r .answer ≡ Answer.Refused n k → Reports loaded p t v s (record { verdict = Refused n k; looking = y }) t v s
+  reports-refused {t} {v} {s} e f = record { checks = by-fault (refused-fault h f); looks = subst (LooksFor loaded p t s) (sym e) (unread (refused-fault h f)) }

@@ -13,9 +13,9 @@ use Rattle.theory.specs.Records.{Alike}
 use Rattle.theory.proofs.Tests.{either}
 use Rattle.extends.specs.Extends.{NoneExtends}
 use Rattle.grammar.specs.Grammar.{Alternation}
-use Rattle.grammar.specs.Limits.{Reads}
+use Rattle.grammar.specs.Loaded.{Accepts}
 use Rattle.grammar.specs.WriteOut.{writeOut}
-use Rattle.grammar.proofs.Right.{unambiguous, not-both}
+use Rattle.grammar.proofs.Loaded.{one-tree, accepts-not-refuses}
 use Rattle.grammar.proofs.Size.{writeOut-numbered}
 use Rattle.verdict.specs.Record.{Form, formOf}
 use Rattle.verdict.specs.Table.{slots}
@@ -38,22 +38,22 @@ use Rattle.checker.specs.Verdicts.{resultOf}
 use Rattle.checker.specs.Looking.{LooksFor, unread, unsearched, searched, Reports}
 
 -- A check goes without a search, or there is one.
-unsearched-only : (p s : List ℕ) (a b : Alternation) → Reads p a → Reads p b → (length s < areaBytes) ⊎ NoneExtends (writeOut a) → areaBytes ≤ length s → (NoneExtends (writeOut b) → ⊥) → ⊥
-unsearched-only p s a b reads also c room fails = either (λ l. omega arith) (λ none. fails (subst (λ x. NoneExtends (writeOut x)) (unambiguous p a b reads also) none)) c
+unsearched-only : (loaded p s : List ℕ) (a b : Alternation) → Accepts loaded p a → Accepts loaded p b → (length s < areaBytes) ⊎ NoneExtends (writeOut loaded a) → areaBytes ≤ length s → (NoneExtends (writeOut loaded b) → ⊥) → ⊥
+unsearched-only loaded p s a b reads also c room fails = either (λ l. omega arith) (λ none. fails (subst (λ x. NoneExtends (writeOut loaded x)) (one-tree loaded p a b reads also) none)) c
 
-module _ {p t s : List ℕ} where
+module _ {loaded p t s : List ℕ} where
   -- THE LOOKING IS ONE: for every pattern, table and area, exactly this.
-  pub looks-one : {y z : Looking} → LooksFor p t s y → LooksFor p t s z → y ≡ z
+  pub looks-one : {y z : Looking} → LooksFor loaded p t s y → LooksFor loaded p t s z → y ≡ z
   looks-one (unread f) (unread g) = refl
   looks-one (unread f) (unsearched reads c) = refl
-  looks-one (unread {n = n} {q = q} f) (searched {a = a} reads l h x) = absurd (not-both p a n q reads f)
+  looks-one (unread {n = n} {q = q} f) (searched {a = a} reads l h x) = absurd (accepts-not-refuses loaded p a n q reads f)
   looks-one (unsearched reads c) (unread f) = refl
   looks-one (unsearched reads c) (unsearched also d) = refl
-  looks-one (unsearched {a = a} reads c) (searched {a = b} also l h x) = absurd (unsearched-only p s a b reads also c l h)
-  looks-one (searched {a = a} reads l h x) (unread {n = n} {q = q} f) = absurd (not-both p a n q reads f)
-  looks-one (searched {a = a} reads l h x) (unsearched {a = b} also c) = absurd (unsearched-only p s b a also reads c l h)
+  looks-one (unsearched {a = a} reads c) (searched {a = b} also l h x) = absurd (unsearched-only loaded p s a b reads also c l h)
+  looks-one (searched {a = a} reads l h x) (unread {n = n} {q = q} f) = absurd (accepts-not-refuses loaded p a n q reads f)
+  looks-one (searched {a = a} reads l h x) (unsearched {a = b} also c) = absurd (unsearched-only loaded p s b a also reads c l h)
   looks-one (searched {a = a} {y = y} reads l h x) (searched {a = b} {y = z} also m k u) =
-      takes-one (writeOut a) (slots (formOf (writeOut a)) (length t)) (writeOut-numbered a) x (subst (λ c. Takes (writeOut c) (slots (formOf (writeOut c)) (length t)) z) (unambiguous p b a also reads) u)
+      takes-one (writeOut loaded a) (slots (formOf (writeOut loaded a)) (length t)) (writeOut-numbered loaded a) x (subst (λ c. Takes (writeOut loaded c) (slots (formOf (writeOut loaded c)) (length t)) z) (one-tree loaded p b a also reads) u)
 
 -- Fewer than 2 to the power of 24.
 not-saturated : (f : Form) (r : Re) (n m : ℕ) → n ≤ slots f m → saturated (n * groupsOf r .count) ≡ n * groupsOf r .count
@@ -64,27 +64,27 @@ not-saturated f r n m h =
     min-eq-left (omega arith)
 
 -- ALIKE: as many looks as records times groups, and so none where there are no records.
-pub check-looks : {p t v s t′ v′ s′ : List ℕ} {x : Report} {n : ℕ} (a : Alternation) → Reads p a → Reports p t v s x t′ v′ s′ → x .verdict ≡ AlikeVerdict n
-    → x .looking .looks ≡ n * groupsOf (writeOut a) .count
-check-looks {p} {t} {v} {s} {t′} {v′} {s′} {x} {n} a reads r e = go (r .looks)
+pub check-looks : {loaded p t v s t′ v′ s′ : List ℕ} {x : Report} {n : ℕ} (a : Alternation) → Accepts loaded p a → Reports loaded p t v s x t′ v′ s′ → x .verdict ≡ AlikeVerdict n
+    → x .looking .looks ≡ n * groupsOf (writeOut loaded a) .count
+check-looks {loaded} {p} {t} {v} {s} {t′} {v′} {s′} {x} {n} a reads r e = go (r .looks)
   where
-    checks : Checked p t v s (whole (alike n) t′ v′) s′
-    checks = subst (λ y. Checked p t v s (whole (resultOf y) t′ v′) s′) e (r .checks)
+    checks : Checked loaded p t v s (whole (alike n) t′ v′) s′
+    checks = subst (λ y. Checked loaded p t v s (whole (resultOf y) t′ v′) s′) e (r .checks)
 
-    looks : {y : Looking} (L : List (List ℕ)) → n ≡ length L → Alike (standing (writeOut a)) L → length L ≤ slots (formOf (writeOut a)) (length t) → Takes (writeOut a) (slots (formOf (writeOut a)) (length t)) y
-        → y .looks ≡ n * groupsOf (writeOut a) .count
+    looks : {y : Looking} (L : List (List ℕ)) → n ≡ length L → Alike (standing (writeOut loaded a)) L → length L ≤ slots (formOf (writeOut loaded a)) (length t) → Takes (writeOut loaded a) (slots (formOf (writeOut loaded a)) (length t)) y
+        → y .looks ≡ n * groupsOf (writeOut loaded a) .count
     looks L f all fits took =
         let (k, l, i) = all .complete [] tt in
-        looks-alike (writeOut a) (slots (formOf (writeOut a)) (length t)) (writeOut-numbered a) all (omega arith) fits took
-        ∙ ap (λ i. saturated (i * groupsOf (writeOut a) .count)) (sym f)
-        ∙ not-saturated (formOf (writeOut a)) (writeOut a) n (length t) (omega arith)
+        looks-alike (writeOut loaded a) (slots (formOf (writeOut loaded a)) (length t)) (writeOut-numbered loaded a) all (omega arith) fits took
+        ∙ ap (λ i. saturated (i * groupsOf (writeOut loaded a) .count)) (sym f)
+        ∙ not-saturated (formOf (writeOut loaded a)) (writeOut loaded a) n (length t) (omega arith)
 
-    by-records : {y : Looking} → Takes (writeOut a) (slots (formOf (writeOut a)) (length t)) y → Found p t v (alike n) t′ v′ → y .looks ≡ n * groupsOf (writeOut a) .count
+    by-records : {y : Looking} → Takes (writeOut loaded a) (slots (formOf (writeOut loaded a)) (length t)) y → Found loaded p t v (alike n) t′ v′ → y .looks ≡ n * groupsOf (writeOut loaded a) .count
     by-records took (not-read f i b d) = absurd (let z : _≡_ {A = ℕ} 0 1 = cc in omega arith)
     by-records took (same-cuts {a = b} {L = L} also all fits i h d) =
         let f : n ≡ length L = cc in
-        let one = unambiguous p b a also reads in
-        looks L f (subst (λ c. Alike (standing (writeOut c)) L) one all) (subst (λ c. length L ≤ slots (formOf (writeOut c)) (length t)) one fits) took
+        let one = one-tree loaded p b a also reads in
+        looks L f (subst (λ c. Alike (standing (writeOut loaded c)) L) one all) (subst (λ c. length L ≤ slots (formOf (writeOut loaded c)) (length t)) one fits) took
     by-records took (first-witness j k l m i b d) = absurd (let z : _≡_ {A = ℕ} 0 1 = cc in omega arith)
     by-records took (no-slot j k l i b d) = absurd (let z : _≡_ {A = ℕ} 0 1 = cc in omega arith)
     by-records took (no-room j k l m i b d) = absurd (let z : _≡_ {A = ℕ} 0 1 = cc in omega arith)
@@ -92,11 +92,11 @@ check-looks {p} {t} {v} {s} {t′} {v′} {s′} {x} {n} a reads r e = go (r .lo
     none : (m : ℕ) → n ≡ 0 → 0 ≡ n * m
     none m z = sym (ap (λ k. k * m) z ∙ zero-mul m)
 
-    go : {y : Looking} → LooksFor p t s y → y .looks ≡ n * groupsOf (writeOut a) .count
-    go (unread {n = m} {q = q} f) = absurd (not-both p a m q reads f)
+    go : {y : Looking} → LooksFor loaded p t s y → y .looks ≡ n * groupsOf (writeOut loaded a) .count
+    go (unread {n = m} {q = q} f) = absurd (accepts-not-refuses loaded p a m q reads f)
     go (unsearched {a = b} also (inl l)) = let f = ap result (short-area a reads l .0 checks .0) in absurd (let z : _≡_ {A = ℕ} 0 1 = cc in omega arith)
-    go (unsearched {a = b} also (inr h)) = none _ (alike-means a reads checks .2 .1 (subst (λ c. NoneExtends (writeOut c)) (unambiguous p b a also reads) h))
+    go (unsearched {a = b} also (inr h)) = none _ (alike-means a reads checks .2 .1 (subst (λ c. NoneExtends (writeOut loaded c)) (one-tree loaded p b a also reads) h))
     go (searched {a = b} {y = y} also room fails took) =
-        let one = unambiguous p b a also reads in
-        let fail = subst (λ c. NoneExtends (writeOut c) → ⊥) one fails in
-        by-records (subst (λ c. Takes (writeOut c) (slots (formOf (writeOut c)) (length t)) y) one took) (tabled-found (test-fails a reads room fail .0 checks .0))
+        let one = one-tree loaded p b a also reads in
+        let fail = subst (λ c. NoneExtends (writeOut loaded c) → ⊥) one fails in
+        by-records (subst (λ c. Takes (writeOut loaded c) (slots (formOf (writeOut loaded c)) (length t)) y) one took) (tabled-found (test-fails a reads room fail .0 checks .0))

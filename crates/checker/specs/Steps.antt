@@ -6,7 +6,7 @@ use mathlib.Core.List.{List}
 use lib.ListN.{length}
 use Rattle.theory.specs.Pattern.{Re, count, Numbered}
 use Rattle.grammar.specs.Grammar.{Alternation}
-use Rattle.grammar.specs.Limits.{Reads}
+use Rattle.grammar.specs.Loaded.{Accepts}
 use Rattle.grammar.specs.WriteOut.{writeOut}
 use Rattle.verdict.specs.Record.{formOf}
 use Rattle.verdict.specs.Table.{slots, onto}
@@ -36,7 +36,7 @@ pub data Handed (m : ℕ) (t : List ℕ) (n : ℕ) (v : List ℕ) : Verdict → 
 
 -- What the records say, where the arrays of a pattern are lent and its records have m bytes.
 pub record Recorded (a : Arrays) (m : ℕ) (t v : List ℕ) (y : Report) (t′ v′ : List ℕ) : Type 0 where
-  pub found : {p : List ℕ} {b : Alternation} → Reads p b → Lent (writeOut b) a → m ≡ formOf (writeOut b) .bytes → Found p t v (resultOf (y .verdict)) t′ v′
+  pub found : {loaded p : List ℕ} {b : Alternation} → Accepts loaded p b → Lent (writeOut loaded b) a → m ≡ formOf (writeOut loaded b) .bytes → Found loaded p t v (resultOf (y .verdict)) t′ v′
   pub looks : {r : Re} → Lent r a → m ≡ formOf r .bytes → Takes r (slots (formOf r) (length t)) (y .looking)
 
 -- The arrays are a pattern's, and its records have m bytes.
@@ -45,4 +45,4 @@ Known a m = (r : Re) × Lent r a × (m ≡ formOf r .bytes)
 
 -- What is decided by the arrays of a pattern that is read.
 pub record Decides (x : Pattern) (t v s : List ℕ) (y : Report) (t′ v′ s′ : List ℕ) : Type 0 where
-  pub reports : {p : List ℕ} {a : Alternation} → Reads p a → decode x ≡ writeOut a → Reports p t v s y t′ v′ s′
+  pub reports : {loaded p : List ℕ} {a : Alternation} → Accepts loaded p a → decode x ≡ writeOut loaded a → Reports loaded p t v s y t′ v′ s′

@@ -13,6 +13,7 @@ resultOf (Alike n) = alike n
 resultOf (Unlike n k) = unlike n k
 resultOf (Refused n q) = refused n q
 
--- For the pattern p, the table t, the witness buffer v and the area s: the verdict, and what table, buffer and area then hold, are those of the papers.
-abbrev pub Checks : List ℕ → List ℕ → List ℕ → List ℕ → Verdict → List ℕ → List ℕ → List ℕ → Type 0
-Checks p t v s x t′ v′ s′ = Checked p t v s (whole (resultOf x) t′ v′) s′
+-- For the pattern p with the named sets that are loaded, the table t, the witness buffer v and the area s: the verdict, and what table, buffer and area then hold, are those of
+-- the papers.
+abbrev pub Checks : List ℕ → List ℕ → List ℕ → List ℕ → List ℕ → Verdict → List ℕ → List ℕ → List ℕ → Type 0
+Checks loaded p t v s x t′ v′ s′ = Checked loaded p t v s (whole (resultOf x) t′ v′) s′

@@ -1,5 +1,5 @@
-// The checker: from a pattern's bytes, a table, a witness buffer and an area of any lengths to a verdict. Paper 01, "Standings and their records" and "Refusals"; paper
-// 02, request 8: the test that needs no table comes first.
+// The checker: from a table of named sets, a pattern's bytes, a table, a witness buffer and an area of any lengths to a verdict. Paper 01, "Standings and their records" and
+// "Refusals"; paper 02, request 8: the test that needs no table comes first; request 9: the named sets are those of the table that is loaded.
 ghost use mathlib.Core.Path.{_≡_};
 ghost use Prim.Native.Nat.{_-_, _<_};
 ghost use Rattle.standing.specs.Stands.{arrays};
@@ -13,7 +13,7 @@ use reader::Answer;
 use search::Looking;
 use search::Progress;
 
-// The verdict, or the refusal with paper 01's number and place.
+// The verdict, or the refusal with the papers' number and place.
 pub enum Verdict {
     // no line is cut differently: the number of records, 0 if the test settled it
     Alike { count: usize },
@@ -155,14 +155,15 @@ fn decide(x: Pattern, table: &mut [u8], witness: &mut [u8], area: &mut [u8]) -> 
 
 // Reads the pattern, decides whether the two readings can ever differ, and says how much looking that took. A refused pattern goes no further than the reader.
 pub fn check_looking(
+    loaded: &[u8],
     pattern: &[u8],
     table: &mut [u8],
     witness: &mut [u8],
     area: &mut [u8],
 ) -> Report
-    ensures reported { λ r. ⌜ Reports (now (pattern .entry)) (now (table .entry)) (now (witness .entry)) (now (area .entry)) r (now (table .exit)) (now (witness .exit)) (now (area .exit)) ⌝ }
+    ensures reported { λ r. ⌜ Reports (now (loaded .entry)) (now (pattern .entry)) (now (table .entry)) (now (witness .entry)) (now (area .entry)) r (now (table .exit)) (now (witness .exit)) (now (area .exit)) ⌝ }
 {
-    let reading = reader::read(pattern);
+    let reading = reader::read(loaded, pattern);
     let answer = reading.answer;
     let Answer::Refused { number, place } = answer else {
         let arrays = reading.pattern;
@@ -175,8 +176,14 @@ pub fn check_looking(
 }
 
 // The verdict alone.
-pub fn check(pattern: &[u8], table: &mut [u8], witness: &mut [u8], area: &mut [u8]) -> Verdict
-    ensures checked { λ r. ⌜ Checks (now (pattern .entry)) (now (table .entry)) (now (witness .entry)) (now (area .entry)) r (now (table .exit)) (now (witness .exit)) (now (area .exit)) ⌝ }
+pub fn check(
+    loaded: &[u8],
+    pattern: &[u8],
+    table: &mut [u8],
+    witness: &mut [u8],
+    area: &mut [u8],
+) -> Verdict
+    ensures checked { λ r. ⌜ Checks (now (loaded .entry)) (now (pattern .entry)) (now (table .entry)) (now (witness .entry)) (now (area .entry)) r (now (table .exit)) (now (witness .exit)) (now (area .exit)) ⌝ }
 {
-    check_looking(pattern, table, witness, area).verdict
+    check_looking(loaded, pattern, table, witness, area).verdict
 }

@@ -11,7 +11,9 @@ fn main() {
     let mut table = [0u8; answers::TABLE];
     let mut witness = [0u8; answers::WITNESS];
     let mut area = [0u8; answers::AREA];
+    let fixed = sets::fixed();
     let s = answers::run(
+        &fixed,
         &mut chunk,
         &mut line,
         &mut out,

@@ -25,14 +25,14 @@ use Rattle.fields.specs.declared.Prepared.{Prepared}
 use Rattle.fields.specs.Answer.{limited}
 use Rattle.fields.specs.Cuts.{Lent, lent, PreparedFor, ready, kept, Prepares}
 
-module _ {p : List ℕ} {r : Reading} (h : ReadRight p r) {old : Lent} where
+module _ {loaded p : List ℕ} {r : Reading} (h : ReadRight loaded p r) {old : Lent} where
   -- The reader refuses it,
-  pub prepared-refused : {n q : ℕ} → r .answer ≡ Refused n q → Prepares p old (record { answer = r .answer; count = 0 }) old
+  pub prepared-refused : {n q : ℕ} → r .answer ≡ Refused n q → Prepares loaded p old (record { answer = r .answer; count = 0 }) old
   prepared-refused {n} {q} e = record { answer = Due.refused n q; right = refused-fault h e; prepared = kept e refl refl }
 
   module _ (e : r .answer ≡ Accepted) where
     -- or it has too many brackets,
-    pub prepared-many : maxFields < r .brackets .count → Prepares p old (record { answer = Refused 12 (r .brackets .ninth); count = 0 }) old
+    pub prepared-many : maxFields < r .brackets .count → Prepares loaded p old (record { answer = Refused 12 (r .brackets .ninth); count = 0 }) old
     prepared-many l =
         let (t, reads, b, long, is) = accepted-tree h e in
         let c : r .brackets .count ≡ brackets t = ap (λ g. g .count) b in
@@ -41,12 +41,12 @@ module _ {p : List ℕ} {r : Reading} (h : ReadRight p r) {old : Lent} where
         record {
           answer = Due.accepted t;
           right = reads;
-          prepared = subst (PreparedFor p old old _) (ap (λ x. cond x (Due.refused 12 (ninth t)) (Due.accepted t)) (sym (lt-ltb maxFields (brackets t) m))) (kept (ap (Refused 12) n) refl refl);
+          prepared = subst (PreparedFor loaded p old old _) (ap (λ x. cond x (Due.refused 12 (ninth t)) (Due.accepted t)) (sym (lt-ltb maxFields (brackets t) m))) (kept (ap (Refused 12) n) refl refl);
         }
 
     -- or its tables and masks are made.
     pub prepared-ready : {new : Tables} {marks : List ℕ} → r .brackets .count ≤ maxFields → Marked (decode (r .pattern)) marks → FilledBy (r .pattern) new
-        → Prepares p old (record { answer = r .answer; count = r .brackets .count }) (lent new marks)
+        → Prepares loaded p old (record { answer = r .answer; count = r .brackets .count }) (lent new marks)
     prepared-ready {new} {marks} l marked filled =
         let (t, reads, b, long, is) = accepted-tree h e in
         let (numbered, few) = accepted-leaves h e in
@@ -55,6 +55,6 @@ module _ {p : List ℕ} {r : Reading} (h : ReadRight p r) {old : Lent} where
           answer = Due.accepted t;
           right = reads;
           prepared =
-              subst (PreparedFor p old (lent new marks) _) (ap (λ x. cond x (Due.refused 12 (ninth t)) (Due.accepted t)) (sym (le-ltb maxFields (brackets t) (omega arith))))
+              subst (PreparedFor loaded p old (lent new marks) _) (ap (λ x. cond x (Due.refused 12 (ninth t)) (Due.accepted t)) (sym (le-ltb maxFields (brackets t) (omega arith))))
               (ready e c (subst (λ x. Ready x new) is (filled .ready numbered few (accepted-holds h e))) (subst (λ x. Marks x marks) is (marked numbered few)));
         }

@@ -36,26 +36,26 @@ fields-same : {r : Re} {w : List ℕ} {x : Piece} → IsCut r w x → (n i : ℕ
 fields-same c zero i h = refl
 fields-same c (suc n) i h = ap₂ _∷_ (c .fields i (omega arith)) (fields-same c n (suc i) (omega arith))
 
-says-due : (t : Alternation) (w : List ℕ) (x : Piece) → brackets t ≤ maxFields → IsCut (writeOut t) w x → saysOf (brackets t) x (spanIn x) ≡ toldBy t w (greedy (writeOut t) w)
-says-due t w x few c = ap (saysOf (brackets t) x) (c .greedily) ∙ go (greedy (writeOut t) w)
+says-due : (loaded : List ℕ) (t : Alternation) (w : List ℕ) (x : Piece) → brackets t ≤ maxFields → IsCut (writeOut loaded t) w x → saysOf (brackets t) x (spanIn x) ≡ toldBy loaded t w (greedy (writeOut loaded t) w)
+says-due loaded t w x few c = ap (saysOf (brackets t) x) (c .greedily) ∙ go (greedy (writeOut loaded t) w)
   where
-    go : (s : Span) → saysOf (brackets t) x s ≡ toldBy t w s
+    go : (s : Span) → saysOf (brackets t) x s ≡ toldBy loaded t w s
     go nowhere = refl
     go (span i k) = ap (Told.spanned i k) (fields-same c (brackets t) 0 (omega arith))
 
-module _ {p w : List ℕ} {old new : Lent} {x : Prepared} (h : Prepares p old x new) where
+module _ {loaded p w : List ℕ} {old new : Lent} {x : Prepared} (h : Prepares loaded p old x new) where
   -- The reply is the one due: of an accepted pattern the cut,
-  pub replied-accepted : {c : Piece} → x .answer ≡ Accepted → Cuts (new .tables) (new .marks) w c → Replied p w (record { answer = x .answer; count = x .count; cut = c })
+  pub replied-accepted : {c : Piece} → x .answer ≡ Accepted → Cuts (new .tables) (new .marks) w c → Replied loaded p w (record { answer = x .answer; count = x .count; cut = c })
   replied-accepted {c} e cuts = record { answer = h .answer; right = h .right; is = go (limited (h .answer)) refl (h .prepared) }
     where
-      go : (d : Due.Answer) → d ≡ limited (h .answer) → PreparedFor p old new x d → says (x .answer) (x .count) c ≡ tell d w
-      go (Due.accepted t) s (ready a n own marked) = rw (a, n) (says-due t w c (limited-few (h .answer) t s) (cuts .cut own marked))
+      go : (d : Due.Answer) → d ≡ limited (h .answer) → PreparedFor loaded p old new x d → says (x .answer) (x .count) c ≡ tell loaded d w
+      go (Due.accepted t) s (ready a n own marked) = rw (a, n) (says-due loaded t w c (limited-few (h .answer) t s) (cuts .cut own marked))
       go (Due.refused n q) s (kept a b k) = absurd (let z : _≡_ {A = ℕ} 0 1 = cc in omega arith)
 
   -- and of a refused one the refusal.
-  pub replied-refused : {n q : ℕ} → x .answer ≡ Refused n q → Replied p w (record { answer = x .answer; count = 0; cut = noPiece })
+  pub replied-refused : {n q : ℕ} → x .answer ≡ Refused n q → Replied loaded p w (record { answer = x .answer; count = 0; cut = noPiece })
   replied-refused {n} {q} e = record { answer = h .answer; right = h .right; is = go (limited (h .answer)) refl (h .prepared) }
     where
-      go : (d : Due.Answer) → d ≡ limited (h .answer) → PreparedFor p old new x d → says (x .answer) 0 noPiece ≡ tell d w
+      go : (d : Due.Answer) → d ≡ limited (h .answer) → PreparedFor loaded p old new x d → says (x .answer) 0 noPiece ≡ tell loaded d w
       go (Due.accepted t) s (ready a n own marked) = absurd (let z : _≡_ {A = ℕ} 0 1 = cc in omega arith)
       go (Due.refused m j) s (kept a b k) = rw a refl

@@ -11,7 +11,8 @@ use lib.ListN.{replicate}
 use lib.Dec.{ltb}
 use borrow.Author.Tests.{ltb-true, ltb-false}
 use Rattle.theory.specs.Pattern.{Manner, eager, lazy, Re, empty, leaf, seq, alt, star, field, opt, count, number}
-use Rattle.grammar.specs.Grammar.{digitsValue, Repeat, once, many, maybe, exactly, atLeast, between, lazily, Alternation, last, or, Sequence, nothing, part, Atom, byte, dot, class, group}
+use Rattle.grammar.specs.Grammar.{Name, digitsValue, Repeat, once, many, maybe, exactly, atLeast, between, lazily, Alternation, last, or, Sequence, nothing, part, Atom, byte, dot, class, group}
+use Rattle.grammar.specs.Sets.{inNamed}
 use Rattle.grammar.specs.Brackets.{brackets, bracketsWithin, bracketsAtom, maxFields}
 use Rattle.grammar.specs.WriteOut.{chain, optional, repeatBy, bracketed, shape, parts, shapeAtom, writeOut}
 use Rattle.traces.specs.Brackets.{Without, Apart}
@@ -29,7 +30,7 @@ data Every (P : Re → Type 0) : List Re → Type 0 where
   none : Every P []
   more : (x : Re) (l : List Re) → P x → Every P l → Every P (x ∷ l)
 
-module _ (P : Re → Type 0) (k : Keeps P) where
+module _ (sets : Name → ℕ → Bool) (P : Re → Type 0) (k : Keeps P) where
   chain-keeps : (l : List Re) → Every P l → P (chain l)
   unfolding chain
   chain-keeps [] none = k .nil
@@ -67,15 +68,15 @@ module _ (P : Re → Type 0) (k : Keeps P) where
   -- What the atoms of a text have at their places has the written-out text, before its leaves are numbered.
   data Each : Sequence → ℕ → Type 0 where
     no-more : {n : ℕ} → Each nothing n
-    and-then : (a : Atom) (r : Repeat) (q : Sequence) (n : ℕ) → P (shapeAtom a n) → Each q (n + bracketsAtom a) → Each (part a r q) n
+    and-then : (a : Atom) (r : Repeat) (q : Sequence) (n : ℕ) → P (shapeAtom sets a n) → Each q (n + bracketsAtom a) → Each (part a r q) n
 
-  parts-keep : (q : Sequence) (n : ℕ) → Each q n → Every P (parts q n)
+  parts-keep : (q : Sequence) (n : ℕ) → Each q n → Every P (parts sets q n)
   unfolding shape
   parts-keep nothing n e = none
-  parts-keep (part a r q) n (and-then _ _ _ _ p e) = more _ _ (repeat-keeps (shapeAtom a n) p eager r) (parts-keep q (n + bracketsAtom a) e)
+  parts-keep (part a r q) n (and-then _ _ _ _ p e) = more _ _ (repeat-keeps (shapeAtom sets a n) p eager r) (parts-keep q (n + bracketsAtom a) e)
 
-  sequence-keeps : (q : Sequence) (n : ℕ) → Each q n → P (chain (parts q n))
-  sequence-keeps q n e = chain-keeps (parts q n) (parts-keep q n e)
+  sequence-keeps : (q : Sequence) (n : ℕ) → Each q n → P (chain (parts sets q n))
+  sequence-keeps q n e = chain-keeps (parts sets q n) (parts-keep q n e)
 
 -- The field f is none of the k after the first n; or there is no such field.
 data Out (f n k : ℕ) : Type 0 where
@@ -108,7 +109,7 @@ bracketed-cases P n x f g = go (ltb n maxFields) (ltb-true n maxFields) (ltb-fal
     go false a b = g (b refl)
 
 -- Fields that the text does not have there.
-module _ (f : ℕ) where
+module _ (sets : Name → ℕ → Bool) (f : ℕ) where
   keeps-without : Keeps (Without f)
   unfolding Without
   keeps-without = record { nil = tt; both = λ x y a b. (a, b); either = λ x y a b. (a, b); turns = λ how x a. a }
@@ -116,23 +117,23 @@ module _ (f : ℕ) where
   mutual
     unfolding shape Without
 
-    shape-without : (t : Alternation) (n : ℕ) → Out f n (brackets t) → Without f (shape t n)
-    shape-without (last q) n o = sequence-keeps (Without f) keeps-without q n (each-without q n o)
+    shape-without : (t : Alternation) (n : ℕ) → Out f n (brackets t) → Without f (shape sets t n)
+    shape-without (last q) n o = sequence-keeps sets (Without f) keeps-without q n (each-without q n o)
     shape-without (or q t) n o =
-        (sequence-keeps (Without f) keeps-without q n (each-without q n (out-left (bracketsWithin q) (brackets t) o)), shape-without t (n + bracketsWithin q) (out-right (bracketsWithin q) (brackets t) o))
+        (sequence-keeps sets (Without f) keeps-without q n (each-without q n (out-left (bracketsWithin q) (brackets t) o)), shape-without t (n + bracketsWithin q) (out-right (bracketsWithin q) (brackets t) o))
 
-    each-without : (q : Sequence) (n : ℕ) → Out f n (bracketsWithin q) → Each (Without f) keeps-without q n
+    each-without : (q : Sequence) (n : ℕ) → Out f n (bracketsWithin q) → Each sets (Without f) keeps-without q n
     each-without nothing n o = no-more
     each-without (part a r q) n o =
         and-then a r q n (atom-without a n (out-left (bracketsAtom a) (bracketsWithin q) o)) (each-without q (n + bracketsAtom a) (out-right (bracketsAtom a) (bracketsWithin q) o))
 
-    atom-without : (a : Atom) (n : ℕ) → Out f n (bracketsAtom a) → Without f (shapeAtom a n)
+    atom-without : (a : Atom) (n : ℕ) → Out f n (bracketsAtom a) → Without f (shapeAtom sets a n)
     atom-without (byte x) n o = tt
     atom-without dot n o = tt
     atom-without (class c x l) n o = tt
     atom-without (group t) n o =
         let w = shape-without t (suc n) (out-inside o) in
-        bracketed-cases (Without f) n (shape t (suc n)) (λ h. (differs o h, w)) (λ h. w)
+        bracketed-cases (Without f) n (shape sets t (suc n)) (λ h. (differs o h, w)) (λ h. w)
       where
         differs : Out f n (suc (brackets t)) → n < maxFields → f ≢ suc n
         differs (before l) h e = omega arith
@@ -144,24 +145,25 @@ keeps-apart : Keeps Apart
 unfolding Apart
 keeps-apart = record { nil = tt; both = λ x y a b. (a, b); either = λ x y a b. (a, b); turns = λ how x a. a }
 
-mutual
-  unfolding shape Apart
+module _ (sets : Name → ℕ → Bool) where
+  mutual
+    unfolding shape Apart
 
-  shape-apart : (t : Alternation) (n : ℕ) → Apart (shape t n)
-  shape-apart (last q) n = sequence-keeps Apart keeps-apart q n (each-apart q n)
-  shape-apart (or q t) n = (sequence-keeps Apart keeps-apart q n (each-apart q n), shape-apart t (n + bracketsWithin q))
+    shape-apart : (t : Alternation) (n : ℕ) → Apart (shape sets t n)
+    shape-apart (last q) n = sequence-keeps sets Apart keeps-apart q n (each-apart q n)
+    shape-apart (or q t) n = (sequence-keeps sets Apart keeps-apart q n (each-apart q n), shape-apart t (n + bracketsWithin q))
 
-  each-apart : (q : Sequence) (n : ℕ) → Each Apart keeps-apart q n
-  each-apart nothing n = no-more
-  each-apart (part a r q) n = and-then a r q n (atom-apart a n) (each-apart q (n + bracketsAtom a))
+    each-apart : (q : Sequence) (n : ℕ) → Each sets Apart keeps-apart q n
+    each-apart nothing n = no-more
+    each-apart (part a r q) n = and-then a r q n (atom-apart a n) (each-apart q (n + bracketsAtom a))
 
-  atom-apart : (a : Atom) (n : ℕ) → Apart (shapeAtom a n)
-  atom-apart (byte x) n = tt
-  atom-apart dot n = tt
-  atom-apart (class c x l) n = tt
-  atom-apart (group t) n =
-      let a = shape-apart t (suc n) in
-      bracketed-cases Apart n (shape t (suc n)) (λ h. (shape-without (suc n) t (suc n) (before (omega arith)), a)) (λ h. a)
+    atom-apart : (a : Atom) (n : ℕ) → Apart (shapeAtom sets a n)
+    atom-apart (byte x) n = tt
+    atom-apart dot n = tt
+    atom-apart (class c x l) n = tt
+    atom-apart (group t) n =
+        let a = shape-apart t (suc n) in
+        bracketed-cases Apart n (shape sets t (suc n)) (λ h. (shape-without sets (suc n) t (suc n) (before (omega arith)), a)) (λ h. a)
 
 -- The leaves' numbers do not matter.
 number-without : (f n : ℕ) (r : Re) → Without f r → Without f (number n r)
@@ -183,14 +185,14 @@ number-apart n (star how x) a = number-apart n x a
 number-apart n (field f x) a = (number-without f n x (a .0), number-apart n x (a .1))
 
 -- NO FIELD STANDS INSIDE ANOTHER OF ITS NUMBER,
-pub writeOut-apart : (t : Alternation) → Apart (writeOut t)
+pub writeOut-apart : (loaded : List ℕ) (t : Alternation) → Apart (writeOut loaded t)
 unfolding writeOut
-writeOut-apart t = number-apart 0 (shape t 0) (shape-apart t 0)
+writeOut-apart loaded t = number-apart 0 (shape (inNamed loaded) t 0) (shape-apart (inNamed loaded) t 0)
 
 -- and no field has a number above the text's.
-pub writeOut-without : (t : Alternation) (f : ℕ) → brackets t < f → Without f (writeOut t)
+pub writeOut-without : (loaded : List ℕ) (t : Alternation) (f : ℕ) → brackets t < f → Without f (writeOut loaded t)
 unfolding writeOut
-writeOut-without t f h = number-without f 0 (shape t 0) (shape-without f t 0 (after (omega arith)))
+writeOut-without loaded t f h = number-without f 0 (shape (inNamed loaded) t 0) (shape-without (inNamed loaded) f t 0 (after (omega arith)))
 
 -- A field that is not there stands inside any.
 without-under : (f g : ℕ) (r : Re) → Without g r → Under f g r
@@ -213,7 +215,7 @@ number-under f g n (field h x) (inl e) = inl e
 number-under f g n (field h x) (inr (d, u)) = inr (d, number-under f g n x u)
 
 -- Inside a bracket the numbers are above its own.
-module _ (f g : ℕ) where
+module _ (sets : Name → ℕ → Bool) (f g : ℕ) where
   keeps-under : Keeps (Under f g)
   unfolding Under
   keeps-under = record { nil = tt; both = λ x y a b. (a, b); either = λ x y a b. (a, b); turns = λ how x a. a }
@@ -233,43 +235,43 @@ module _ (f g : ℕ) where
     atom-above (group t) n (inr i) = let (a, b) = inner-above t (suc n) i in (omega arith, omega arith)
 
   -- Where the field g is not among those of a part,
-  each-out : (q : Sequence) (n : ℕ) → Out g n (bracketsWithin q) → Each (Under f g) keeps-under q n
+  each-out : (q : Sequence) (n : ℕ) → Out g n (bracketsWithin q) → Each sets (Under f g) keeps-under q n
   each-out nothing n o = no-more
   each-out (part a r q) n o =
-      and-then a r q n (without-under f g (shapeAtom a n) (atom-without g a n (out-left (bracketsAtom a) (bracketsWithin q) o))) (each-out q (n + bracketsAtom a) (out-right (bracketsAtom a) (bracketsWithin q) o))
+      and-then a r q n (without-under f g (shapeAtom sets a n) (atom-without sets g a n (out-left (bracketsAtom a) (bracketsWithin q) o))) (each-out q (n + bracketsAtom a) (out-right (bracketsAtom a) (bracketsWithin q) o))
 
-  shape-out : (t : Alternation) (n : ℕ) → Out g n (brackets t) → Under f g (shape t n)
-  shape-out t n o = without-under f g (shape t n) (shape-without g t n o)
+  shape-out : (t : Alternation) (n : ℕ) → Out g n (brackets t) → Under f g (shape sets t n)
+  shape-out t n o = without-under f g (shape sets t n) (shape-without sets g t n o)
 
   -- and where it stands inside the bracket f there.
   mutual
     unfolding shape Under
 
-    shape-under : (t : Alternation) (n : ℕ) → Inner f g t n → Under f g (shape t n)
-    shape-under (last q) n i = sequence-keeps (Under f g) keeps-under q n (each-under q n i)
+    shape-under : (t : Alternation) (n : ℕ) → Inner f g t n → Under f g (shape sets t n)
+    shape-under (last q) n i = sequence-keeps sets (Under f g) keeps-under q n (each-under q n i)
     shape-under (or q t) n (inl i) =
         let (a, b) = within-above q n i in
-        (sequence-keeps (Under f g) keeps-under q n (each-under q n i), shape-out t (n + bracketsWithin q) (before (omega arith)))
+        (sequence-keeps sets (Under f g) keeps-under q n (each-under q n i), shape-out t (n + bracketsWithin q) (before (omega arith)))
     shape-under (or q t) n (inr i) =
         let (a, b) = inner-above t (n + bracketsWithin q) i in
-        (sequence-keeps (Under f g) keeps-under q n (each-out q n (after (omega arith))), shape-under t (n + bracketsWithin q) i)
+        (sequence-keeps sets (Under f g) keeps-under q n (each-out q n (after (omega arith))), shape-under t (n + bracketsWithin q) i)
 
-    each-under : (q : Sequence) (n : ℕ) → InnerWithin f g q n → Each (Under f g) keeps-under q n
+    each-under : (q : Sequence) (n : ℕ) → InnerWithin f g q n → Each sets (Under f g) keeps-under q n
     each-under (part a r q) n (inl i) =
         let (b, c) = atom-above a n i in
         and-then a r q n (atom-under a n i) (each-out q (n + bracketsAtom a) (before (omega arith)))
     each-under (part a r q) n (inr i) =
         let (b, c) = within-above q (n + bracketsAtom a) i in
-        and-then a r q n (without-under f g (shapeAtom a n) (atom-without g a n (after (omega arith)))) (each-under q (n + bracketsAtom a) i)
+        and-then a r q n (without-under f g (shapeAtom sets a n) (atom-without sets g a n (after (omega arith)))) (each-under q (n + bracketsAtom a) i)
 
-    atom-under : (a : Atom) (n : ℕ) → InnerAtom f g a n → Under f g (shapeAtom a n)
-    atom-under (group t) n (inl (e, l, m)) = bracketed-cases (Under f g) n (shape t (suc n)) (λ h. inl (sym e)) (λ h. shape-out t (suc n) (beyond (omega arith)))
+    atom-under : (a : Atom) (n : ℕ) → InnerAtom f g a n → Under f g (shapeAtom sets a n)
+    atom-under (group t) n (inl (e, l, m)) = bracketed-cases (Under f g) n (shape sets t (suc n)) (λ h. inl (sym e)) (λ h. shape-out t (suc n) (beyond (omega arith)))
     atom-under (group t) n (inr i) =
         let (a, b) = inner-above t (suc n) i in
         let u = shape-under t (suc n) i in
-        bracketed-cases (Under f g) n (shape t (suc n)) (λ h. inr (λ e. omega arith, u)) (λ h. u)
+        bracketed-cases (Under f g) n (shape sets t (suc n)) (λ h. inr (λ e. omega arith, u)) (λ h. u)
 
 -- A BRACKET OF THE TEXT INSIDE ANOTHER IS A FIELD INSIDE ITS FIELD, wherever copies of the two are written.
-pub writeOut-under : (t : Alternation) (f g : ℕ) → Inner f g t 0 → Under f g (writeOut t)
+pub writeOut-under : (loaded : List ℕ) (t : Alternation) (f g : ℕ) → Inner f g t 0 → Under f g (writeOut loaded t)
 unfolding writeOut
-writeOut-under t f g i = number-under f g 0 (shape t 0) (shape-under f g t 0 i)
+writeOut-under loaded t f g i = number-under f g 0 (shape (inNamed loaded) t 0) (shape-under (inNamed loaded) f g t 0 i)

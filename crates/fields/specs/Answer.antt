@@ -24,17 +24,17 @@ pub data Told : Type 0 where
   spanned : ℕ → ℕ → List Field → Told
 
 -- Field 1 and so on, as many as the pattern has opening brackets.
-abbrev pub fieldsOf : Alternation → List ℕ → List Field
-fieldsOf t w = map (fieldAt (writeOut t) w) (from 1 (brackets t))
+abbrev pub fieldsOf : List ℕ → Alternation → List ℕ → List Field
+fieldsOf loaded t w = map (fieldAt (writeOut loaded t) w) (from 1 (brackets t))
 
-abbrev pub toldBy : Alternation → List ℕ → Span → Told
-toldBy t w nowhere = none
-toldBy t w (span i k) = spanned i k (fieldsOf t w)
+abbrev pub toldBy : List ℕ → Alternation → List ℕ → Span → Told
+toldBy loaded t w nowhere = none
+toldBy loaded t w (span i k) = spanned i k (fieldsOf loaded t w)
 
-abbrev pub tell : Due.Answer → List ℕ → Told
-tell (Due.accepted t) w = toldBy t w (greedy (writeOut t) w)
-tell (Due.refused n q) w = refused n q
+abbrev pub tell : List ℕ → Due.Answer → List ℕ → Told
+tell loaded (Due.accepted t) w = toldBy loaded t w (greedy (writeOut loaded t) w)
+tell loaded (Due.refused n q) w = refused n q
 
--- What is due for the line w by the grammar's answer.
-abbrev pub due : Due.Answer → List ℕ → Told
-due a w = tell (limited a) w
+-- What is due for the line w by the grammar's answer, with the named sets that are loaded.
+abbrev pub due : List ℕ → Due.Answer → List ℕ → Told
+due loaded a w = tell loaded (limited a) w

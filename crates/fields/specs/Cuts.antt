@@ -13,7 +13,7 @@ use Rattle.theory.specs.Spans.{Span, nowhere, span, greedy}
 use Rattle.grammar.specs.Grammar.{Alternation}
 use Rattle.grammar.specs.Brackets.{brackets, maxFields}
 use Rattle.grammar.specs.WriteOut.{writeOut}
-use Rattle.grammar.specs.Refusals.{Right}
+use Rattle.grammar.specs.Loaded.{Answers}
 use Rattle.grammar.specs.Refusals as Due
 use Rattle.traces.specs.Fields.{Field, absent, fieldFrom, fieldAt}
 use Rattle.traces.specs.Code.Marks.{Marks}
@@ -60,14 +60,14 @@ abbrev pub lent : Tables → List ℕ → Lent
 lent t marks = record { tables = t; marks = marks }
 
 -- The answer is the one that is right here. An accepted pattern's tables are its own and its fields are counted; a refused one's are kept, and it has no fields.
-pub data PreparedFor (p : List ℕ) (old : Lent) (new : Lent) (x : Prepared) : Due.Answer → Type 0 where
-  ready : {t : Alternation} → x .answer ≡ Accepted → x .count ≡ brackets t → Ready (writeOut t) (new .tables) → Marks (writeOut t) (new .marks) → PreparedFor p old new x (Due.accepted t)
-  kept : {n q : ℕ} → x .answer ≡ Refused n q → x .count ≡ 0 → new ≡ old → PreparedFor p old new x (Due.refused n q)
+pub data PreparedFor (loaded p : List ℕ) (old : Lent) (new : Lent) (x : Prepared) : Due.Answer → Type 0 where
+  ready : {t : Alternation} → x .answer ≡ Accepted → x .count ≡ brackets t → Ready (writeOut loaded t) (new .tables) → Marks (writeOut loaded t) (new .marks) → PreparedFor loaded p old new x (Due.accepted t)
+  kept : {n q : ℕ} → x .answer ≡ Refused n q → x .count ≡ 0 → new ≡ old → PreparedFor loaded p old new x (Due.refused n q)
 
-pub record Prepares (p : List ℕ) (old : Lent) (x : Prepared) (new : Lent) : Type 0 where
+pub record Prepares (loaded p : List ℕ) (old : Lent) (x : Prepared) (new : Lent) : Type 0 where
   pub answer : Due.Answer
-  pub right : Right p answer
-  pub prepared : PreparedFor p old new x (limited answer)
+  pub right : Answers loaded p answer
+  pub prepared : PreparedFor loaded p old new x (limited answer)
 
 -- What a reply says.
 abbrev pub fieldsIn : ℕ → Piece → List Field
@@ -82,7 +82,7 @@ says Accepted n x = saysOf n x (spanIn x)
 says (Refused m q) n x = refused m q
 
 -- The reply is the one due.
-pub record Replied (p w : List ℕ) (r : Reply) : Type 0 where
+pub record Replied (loaded p w : List ℕ) (r : Reply) : Type 0 where
   pub answer : Due.Answer
-  pub right : Right p answer
-  pub is : says (r .answer) (r .count) (r .cut) ≡ due answer w
+  pub right : Answers loaded p answer
+  pub is : says (r .answer) (r .count) (r .cut) ≡ due loaded answer w

@@ -33,6 +33,7 @@ const TOO_MANY: u8 = 12;
 
 // Reads a pattern, fills its tables and the masks of its fields, which then serve any number of lines. A refused pattern leaves them as they are.
 pub fn prepare(
+    loaded: &[u8],
     pattern: &[u8],
     masks: &mut [u64; 256],
     rows: &mut [u8; 4225],
@@ -43,11 +44,11 @@ pub fn prepare(
     hows: &mut [u8; 10],
     marks: &mut [u16; 4225],
 ) -> Prepared
-    ensures prepared { λ r. ⌜ Prepares (now (pattern .entry))
+    ensures prepared { λ r. ⌜ Prepares (now (loaded .entry)) (now (pattern .entry))
         (lent (tables (now (masks .entry)) (now (rows .entry)) (now (lens .entry)) (now (sets .entry)) (now (ends .entry)) (now (next .entry)) (now (hows .entry))) (now (marks .entry))) r
         (lent (tables (now (masks .exit)) (now (rows .exit)) (now (lens .exit)) (now (sets .exit)) (now (ends .exit)) (now (next .exit)) (now (hows .exit))) (now (marks .exit))) ⌝ }
 {
-    let reading = reader::read(pattern);
+    let reading = reader::read(loaded, pattern);
     let answer = reading.answer;
     let Answer::Accepted = answer else {
         return Prepared {
@@ -117,8 +118,8 @@ pub fn cut<'a>(
 }
 
 // Reads a pattern, and cuts a line by it.
-pub fn cut_line(pattern: &[u8], line: &[u8]) -> Reply
-    ensures replied { λ r. ⌜ Replied (now (pattern .entry)) (now (line .entry)) r ⌝ }
+pub fn cut_line(loaded: &[u8], pattern: &[u8], line: &[u8]) -> Reply
+    ensures replied { λ r. ⌜ Replied (now (loaded .entry)) (now (pattern .entry)) (now (line .entry)) r ⌝ }
 {
     let mut masks = [0u64; 256];
     let mut rows = [0u8; 4225];
@@ -129,6 +130,7 @@ pub fn cut_line(pattern: &[u8], line: &[u8]) -> Reply
     let mut hows = [0u8; 10];
     let mut marks = [0u16; 4225];
     let ready = prepare(
+        loaded,
         pattern,
         &mut masks,
         &mut rows,

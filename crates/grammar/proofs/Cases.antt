@@ -9,7 +9,7 @@ use Rattle.theory.specs.Pattern.{eager, lazy, Re, empty, leaf, seq, alt, star, 
 use Rattle.theory.specs.Standing.{from}
 use Rattle.grammar.specs.Grammar.{plain, digit, Item, range, named, Digits, one, more, exactly, atLeast, between, lazily, kind, inside}
 use Rattle.grammar.specs.Limits.{heaviest, weight}
-use Rattle.grammar.specs.Sets.{setTable, inItem, inClass}
+use Rattle.grammar.specs.Sets.{inPosix, setTable, inNamed, inItem, inClass}
 use Rattle.grammar.specs.Brackets.{brackets, ninth}
 use Rattle.grammar.specs.WriteOut.{chain, optional, repeatOf, bracketed, shape, writeOut}
 use Rattle.grammar.specs.Refusals.{Answer, accepted, refused}
@@ -30,7 +30,7 @@ numberOf (accepted t) = 0
 numberOf (refused n q) = n
 
 abbrev placeOf : Answer → ℕ
-placeOf (accepted t) = count (writeOut t)
+placeOf (accepted t) = count (writeOut setTable t)
 placeOf (refused n q) = q
 
 abbrev cases : List Case
@@ -89,15 +89,15 @@ places-due = refl
 abbrev a-to-c : List Item
 a-to-c = range (plain 97) (plain 99) ∷ []
 
-pub range-ends : map (inClass false a-to-c) (96 ∷ 97 ∷ 99 ∷ 100 ∷ []) ≡ false ∷ true ∷ true ∷ false ∷ []
+pub range-ends : map (inClass inPosix false a-to-c) (96 ∷ 97 ∷ 99 ∷ 100 ∷ []) ≡ false ∷ true ∷ true ∷ false ∷ []
 range-ends = refl
 
-pub negated-class : map (inClass true a-to-c) (96 ∷ 97 ∷ 99 ∷ 100 ∷ []) ≡ true ∷ false ∷ false ∷ true ∷ []
+pub negated-class : map (inClass inPosix true a-to-c) (96 ∷ 97 ∷ 99 ∷ 100 ∷ []) ≡ true ∷ false ∷ false ∷ true ∷ []
 negated-class = refl
 
 -- The set of the pattern's first leaf at each byte from 0 to 255. `.` holds all but 10, and [^a] all but a: 0 and 10 are bytes like others there.
 abbrev holds : Answer → List Bool
-holds (accepted t) = map (has (writeOut t) 0) (from 0 256)
+holds (accepted t) = map (has (writeOut setTable t) 0) (from 0 256)
 holds (refused n q) = []
 
 pub dot-holds : holds (read (46 ∷ [])) ≡ replicate 10 true ++ (false ∷ replicate 245 true)
@@ -109,7 +109,7 @@ unfolding read loop kind inside readItems heaviest weight writeOut bracketed sha
 negated-holds = refl
 
 -- A named set is its bit of the table: [:digit:] at `/`, 0, 9 and `:`.
-pub named-set : map (inItem (named digit)) (47 ∷ 48 ∷ 57 ∷ 58 ∷ []) ≡ false ∷ true ∷ true ∷ false ∷ []
+pub named-set : map (inItem (inNamed setTable) (named digit)) (47 ∷ 48 ∷ 57 ∷ 58 ∷ []) ≡ false ∷ true ∷ true ∷ false ∷ []
 unfolding setTable
 named-set = refl
 
@@ -158,7 +158,7 @@ abbrev largest : List ℕ
 largest = 40 ∷ nest 15 (41 ∷ 123 ∷ 48 ∷ 44 ∷ 54 ∷ 51 ∷ 125 ∷ nest 16 [])
 
 abbrev size : Answer → ℕ
-size (accepted t) = nodes (writeOut t)
+size (accepted t) = nodes (writeOut setTable t)
 size (refused n q) = 0
 
 pub most-nodes : size (read largest) ≡ 2807
@@ -175,7 +175,7 @@ fieldsIn (star how x) = fieldsIn x
 fieldsIn (field f x) = f ∷ fieldsIn x
 
 abbrev fieldsOf : Answer → List ℕ
-fieldsOf (accepted t) = brackets t ∷ ninth t ∷ fieldsIn (writeOut t)
+fieldsOf (accepted t) = brackets t ∷ ninth t ∷ fieldsIn (writeOut setTable t)
 fieldsOf (refused n q) = []
 
 abbrev copied : List ℕ

@@ -12,7 +12,8 @@ use Rattle.theory.specs.Base.{Eager, Reordered, same-empty, same-leaf, in-seq, 
 use Rattle.theory.specs.Spans.{posix}
 use Rattle.theory.specs.Standing.{standing}
 use Rattle.theory.proofs.Reordered.{reordered-posix, reordered-standing}
-use Rattle.grammar.specs.Grammar.{digitsValue, Repeat, once, many, more, maybe, exactly, atLeast, between, lazily, Alternation, last, or, Sequence, nothing, part, Atom, byte, dot, class, group}
+use Rattle.grammar.specs.Grammar.{Name, digitsValue, Repeat, once, many, more, maybe, exactly, atLeast, between, lazily, Alternation, last, or, Sequence, nothing, part, Atom, byte, dot, class, group}
+use Rattle.grammar.specs.Sets.{inNamed}
 use Rattle.grammar.specs.Brackets.{maxFields, brackets, bracketsWithin, bracketsAtom}
 use Rattle.grammar.specs.WriteOut.{chain, optional, repeatBy, bracketed, shape, parts, shapeAtom, writeOut}
 use Rattle.grammar.specs.Eager.{eagerRepeat, eagerly, eagerSequence, eagerAtom}
@@ -132,28 +133,29 @@ mutual
   bracketsAtom-eager (class c x l) = refl
   bracketsAtom-eager (group t) = ap suc (brackets-eager t)
 
-mutual
-  unfolding shape eagerly
+module _ (sets : Name → ℕ → Bool) where
+  mutual
+    unfolding shape eagerly
 
-  shape-softer : (t : Alternation) (n : ℕ) → Softer (shape (eagerly t) n) (shape t n)
-  shape-softer (last q) n = chain-softer (parts-softer q n)
-  shape-softer (or q t) n =
-      of-alt (chain-softer (parts-softer q n)) (subst (λ m. Softer (shape (eagerly t) (n + m)) (shape t (n + bracketsWithin q))) (sym (within-eager q)) (shape-softer t (n + bracketsWithin q)))
+    shape-softer : (t : Alternation) (n : ℕ) → Softer (shape sets (eagerly t) n) (shape sets t n)
+    shape-softer (last q) n = chain-softer (parts-softer q n)
+    shape-softer (or q t) n =
+        of-alt (chain-softer (parts-softer q n)) (subst (λ m. Softer (shape sets (eagerly t) (n + m)) (shape sets t (n + bracketsWithin q))) (sym (within-eager q)) (shape-softer t (n + bracketsWithin q)))
 
-  parts-softer : (q : Sequence) (n : ℕ) → Softers (parts (eagerSequence q) n) (parts q n)
-  parts-softer nothing n = nil
-  parts-softer (part a r q) n =
-      cons (repeat-softer (atom-softer a n) eager r) (subst (λ m. Softers (parts (eagerSequence q) (n + m)) (parts q (n + bracketsAtom a))) (sym (bracketsAtom-eager a)) (parts-softer q (n + bracketsAtom a)))
+    parts-softer : (q : Sequence) (n : ℕ) → Softers (parts sets (eagerSequence q) n) (parts sets q n)
+    parts-softer nothing n = nil
+    parts-softer (part a r q) n =
+        cons (repeat-softer (atom-softer a n) eager r) (subst (λ m. Softers (parts sets (eagerSequence q) (n + m)) (parts sets q (n + bracketsAtom a))) (sym (bracketsAtom-eager a)) (parts-softer q (n + bracketsAtom a)))
 
-  atom-softer : (a : Atom) (n : ℕ) → Softer (shapeAtom (eagerAtom a) n) (shapeAtom a n)
-  atom-softer (byte x) n = of-leaf
-  atom-softer dot n = of-leaf
-  atom-softer (class c x l) n = of-leaf
-  atom-softer (group t) n = bracketed-softer n (shape-softer t (suc n))
+    atom-softer : (a : Atom) (n : ℕ) → Softer (shapeAtom sets (eagerAtom a) n) (shapeAtom sets a n)
+    atom-softer (byte x) n = of-leaf
+    atom-softer dot n = of-leaf
+    atom-softer (class c x l) n = of-leaf
+    atom-softer (group t) n = bracketed-softer n (shape-softer t (suc n))
 
-written-softer : (t : Alternation) → Softer (writeOut (eagerly t)) (writeOut t)
+written-softer : (loaded : List ℕ) (t : Alternation) → Softer (writeOut loaded (eagerly t)) (writeOut loaded t)
 unfolding writeOut
-written-softer t = softer-number (shape-softer t 0) 0
+written-softer loaded t = softer-number (shape-softer (inNamed loaded) t 0) 0
 
 repeat-twice : (r : Repeat) → eagerRepeat (eagerRepeat r) ≡ eagerRepeat r
 repeat-twice once = refl
@@ -184,14 +186,14 @@ mutual
   atom-twice (group t) = ap group (eagerly-twice t)
 
 -- THE POSIX READING TREATS THE SIGN AS THE PLAIN REPEAT,
-pub eagerly-posix : (t : Alternation) (w : List ℕ) → posix (writeOut (eagerly t)) w ≡ posix (writeOut t) w
-eagerly-posix t w = reordered-posix (reordered (written-softer t)) w
+pub eagerly-posix : (loaded : List ℕ) (t : Alternation) (w : List ℕ) → posix (writeOut loaded (eagerly t)) w ≡ posix (writeOut loaded t) w
+eagerly-posix loaded t w = reordered-posix (reordered (written-softer loaded t)) w
 
 -- (c) AND (d) OF A STANDING DO NOT DEPEND ON THE SIGNS,
-pub eagerly-sets : (t : Alternation) (w : List ℕ)
-    → (standing (writeOut (eagerly t)) w .all ≡ standing (writeOut t) w .all) × (standing (writeOut (eagerly t)) w .some ≡ standing (writeOut t) w .some)
-eagerly-sets t w = reordered-standing (reordered (written-softer t)) w
+pub eagerly-sets : (loaded : List ℕ) (t : Alternation) (w : List ℕ)
+    → (standing (writeOut loaded (eagerly t)) w .all ≡ standing (writeOut loaded t) w .all) × (standing (writeOut loaded (eagerly t)) w .some ≡ standing (writeOut loaded t) w .some)
+eagerly-sets loaded t w = reordered-standing (reordered (written-softer loaded t)) w
 
 -- AND WITHOUT THEM THE WRITTEN-OUT PATTERN HAS NO LAZY REPEAT.
-pub unsigned-eager : (t : Alternation) → eagerly t ≡ t → Eager (writeOut t)
-unsigned-eager t e = subst (λ u. Eager (writeOut u)) e (is-eager (written-softer t))
+pub unsigned-eager : (loaded : List ℕ) (t : Alternation) → eagerly t ≡ t → Eager (writeOut loaded t)
+unsigned-eager loaded t e = subst (λ u. Eager (writeOut loaded u)) e (is-eager (written-softer loaded t))

@@ -8,6 +8,7 @@ pub mod Sound
 pub mod Unique
 pub mod Right
 pub mod Place
+pub mod Loaded
 -- The written-out pattern: its leaves and parts, and its tokens.
 pub mod Size
 pub mod Openings

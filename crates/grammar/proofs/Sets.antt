@@ -1,17 +1,18 @@
--- Each named set is its bit of the table: one test over all entries, computed, and the rule at each entry from it.
+-- Each named set is its bit of the table: one test over all entries, computed, and the rule at each entry from it. And sets of bytes that are the same.
 -- Assumes nothing.
-use mathlib.Core.Path.{_≡_, refl, ap, _∙_}
-use Prim.Native.Nat.{ℕ, zero, suc, _+_, _/_, _%_, _<_}
+use mathlib.Core.Path.{_≡_, refl, ap, _∙_, fun-ext}
+use Prim.Native.Nat.{ℕ, zero, suc, _+_, _<_}
 use mathlib.Core.Bool.{Bool, true, false, _&&_}
 use mathlib.Core.List.{map}
 use native.Mathlib.Omega.{arith}
 use native.Mathlib.Decide.{ℕ-discrete}
 use lib.ListN.{getD}
-use lib.Dec.{T, eqb}
+use lib.Dec.{T, ltb}
+use borrow.Author.Tests.{ltb-true}
 use Rattle.theory.specs.Standing.{from}
 use Rattle.theory.proofs.Members.{map-from}
 use Rattle.grammar.specs.Grammar.{Name, alpha, digit, alnum, upper, lower, xdigit, space, punct}
-use Rattle.grammar.specs.Sets.{inPosix, bitOf, names, entry, setTable, inNamed}
+use Rattle.grammar.specs.Sets.{inPosix, hasSet, names, entry, setTable, inNamed}
 
 pub table-entry : (b : ℕ) → b < 256 → getD setTable b 0 ≡ entry names b
 unfolding setTable
@@ -36,15 +37,15 @@ both false b t = absurd t
 -- The entries below d have the set n's bit just where the set has the byte.
 agree : Name → ℕ → Bool
 agree n zero = true
-agree n (suc d) = same (eqb (entry names d / bitOf n % 2) 1) (inPosix n d) && agree n d
+agree n (suc d) = same (hasSet (entry names d) n) (inPosix n d) && agree n d
 
-agree-at : (n : Name) (d b : ℕ) → T (agree n d) → b < d → eqb (entry names b / bitOf n % 2) 1 ≡ inPosix n b
+agree-at : (n : Name) (d b : ℕ) → T (agree n d) → b < d → hasSet (entry names b) n ≡ inPosix n b
 unfolding agree
 agree-at n zero b t h = absurd (omega arith)
 agree-at n (suc d) b t h =
-    let (here, below) = both (same (eqb (entry names d / bitOf n % 2) 1) (inPosix n d)) (agree n d) t in
+    let (here, below) = both (same (hasSet (entry names d) n) (inPosix n d)) (agree n d) t in
     elim (ℕ-discrete b d) [
-      | yes q ↦ rw q (same-eq (eqb (entry names d / bitOf n % 2) 1) (inPosix n d) here)
+      | yes q ↦ rw q (same-eq (hasSet (entry names d) n) (inPosix n d) here)
       | no q ↦ agree-at n d b below (omega arith)
     ]
 
@@ -62,3 +63,11 @@ all-agree punct = tt
 -- THE TABLE HAS THE POSIX LOCALE'S SETS.
 pub named-posix : (n : Name) (b : ℕ) → b < 256 → inNamed setTable n b ≡ inPosix n b
 named-posix n b h = rw (table-entry b h) (agree-at n 256 b (all-agree n) h)
+
+-- Two sets of bytes that agree below 256.
+pub bytes-same : (s t : ℕ → Bool) → ((b : ℕ) → b < 256 → s b ≡ t b) → _≡_ {A = ℕ → Bool} (λ b. ltb b 256 && s b) (λ b. ltb b 256 && t b)
+bytes-same s t h = fun-ext λ b. go b (ltb b 256) (ltb-true b 256)
+  where
+    go : (b : ℕ) (c : Bool) → (c ≡ true → b < 256) → (c && s b) ≡ (c && t b)
+    go b true f = h b (f refl)
+    go b false f = refl

@@ -10,15 +10,16 @@ use lib.ListN.{replicate}
 use lib.Dec.{leb, leb→le, ltb, ltb→lt, T}
 use Rattle.theory.specs.Pattern.{Manner, eager, lazy, Re, empty, leaf, seq, alt, star, field, opt, count, Numbered, number}
 use Rattle.theory.proofs.Numbering.{number-count, number-right}
-use Rattle.grammar.specs.Grammar.{Digits, digitsValue, Repeat, once, many, more, maybe, exactly, atLeast, between, lazily, Alternation, last, or, Sequence, nothing, part, Atom, byte, dot, class, group, WfAlternation, WfSequence, WfAtom, WfRepeat}
+use Rattle.grammar.specs.Grammar.{Name, Digits, digitsValue, Repeat, once, many, more, maybe, exactly, atLeast, between, lazily, Alternation, last, or, Sequence, nothing, part, Atom, byte, dot, class, group, WfAlternation, WfSequence, WfAtom, WfRepeat}
 use Rattle.grammar.specs.Limits.{depth, depthSequence, depthAtom, times, repeated, weight, weights, weightAtom, heaviest, Reads}
+use Rattle.grammar.specs.Sets.{inNamed}
 use Rattle.grammar.specs.Brackets.{bracketsWithin, bracketsAtom, maxFields}
 use Rattle.grammar.specs.Code.Tokens.{nodes, maxParts}
 use Rattle.grammar.specs.WriteOut.{chain, optional, repeatBy, bracketed, shape, parts, shapeAtom, writeOut}
 
-pub writeOut-numbered : (t : Alternation) → Numbered 0 (writeOut t)
+pub writeOut-numbered : (loaded : List ℕ) (t : Alternation) → Numbered 0 (writeOut loaded t)
 unfolding writeOut
-writeOut-numbered t = number-right 0 (shape t 0)
+writeOut-numbered loaded t = number-right 0 (shape (inNamed loaded) t 0)
 
 pub number-nodes : (n : ℕ) (r : Re) → nodes (number n r) ≡ nodes r
 unfolding number nodes
@@ -108,31 +109,32 @@ count-bracketed : (n : ℕ) (x : Re) → count (bracketed n x) ≡ count x
 unfolding count
 count-bracketed = measure-bracketed count (λ f x. refl)
 
-mutual
-  unfolding count leaves shape weight
+module _ (sets : Name → ℕ → Bool) where
+  mutual
+    unfolding count leaves shape weight
 
-  count-alternation : (t : Alternation) (n : ℕ) → WfAlternation t → count (shape t n) ≤ weight t
-  count-alternation (last q) n w = omega (arith, count-chain-le (parts q n), count-parts q n w)
-  count-alternation (or q t) n w = omega (arith, count-chain-le (parts q n), count-parts q n (w .0), count-alternation t (n + bracketsWithin q) (w .1))
+    count-alternation : (t : Alternation) (n : ℕ) → WfAlternation t → count (shape sets t n) ≤ weight t
+    count-alternation (last q) n w = omega (arith, count-chain-le (parts sets q n), count-parts q n w)
+    count-alternation (or q t) n w = omega (arith, count-chain-le (parts sets q n), count-parts q n (w .0), count-alternation t (n + bracketsWithin q) (w .1))
 
-  count-parts : (q : Sequence) (n : ℕ) → WfSequence q → leaves (parts q n) ≤ weights q
-  count-parts nothing n w = omega arith
-  count-parts (part a r q) n w = omega (arith, count-repeat eager r (shapeAtom a n) (weightAtom a) (w .1) (count-atom a n (w .0)), count-parts q (n + bracketsAtom a) (w .2))
+    count-parts : (q : Sequence) (n : ℕ) → WfSequence q → leaves (parts sets q n) ≤ weights q
+    count-parts nothing n w = omega arith
+    count-parts (part a r q) n w = omega (arith, count-repeat eager r (shapeAtom sets a n) (weightAtom a) (w .1) (count-atom a n (w .0)), count-parts q (n + bracketsAtom a) (w .2))
 
-  count-atom : (a : Atom) (n : ℕ) → WfAtom a → count (shapeAtom a n) ≤ weightAtom a
-  count-atom (byte x) n w = omega arith
-  count-atom dot n w = omega arith
-  count-atom (class c x l) n w = omega arith
-  count-atom (group t) n w = omega (arith, count-bracketed n (shape t (suc n)), count-alternation t (suc n) w)
+    count-atom : (a : Atom) (n : ℕ) → WfAtom a → count (shapeAtom sets a n) ≤ weightAtom a
+    count-atom (byte x) n w = omega arith
+    count-atom dot n w = omega arith
+    count-atom (class c x l) n w = omega arith
+    count-atom (group t) n w = omega (arith, count-bracketed n (shape sets t (suc n)), count-alternation t (suc n) w)
 
 pub weight-heaviest : (t : Alternation) → weight t ≤ heaviest t
 unfolding heaviest
 weight-heaviest (last q) = omega arith
 weight-heaviest (or q t) = omega arith
 
-pub leaves-64 : (p : List ℕ) (t : Alternation) → Reads p t → count (writeOut t) ≤ 64
+pub leaves-64 : (loaded p : List ℕ) (t : Alternation) → Reads p t → count (writeOut loaded t) ≤ 64
 unfolding writeOut
-leaves-64 p t h = rw (number-count 0 (shape t 0)) (omega (arith, count-alternation t 0 (h .formed), weight-heaviest t, h .light))
+leaves-64 loaded p t h = rw (number-count 0 (shape (inNamed loaded) t 0)) (omega (arith, count-alternation (inNamed loaded) t 0 (h .formed), weight-heaviest t, h .light))
 
 -- Nodes. One more than the nodes of a part is what a sequence adds up.
 sizes : List Re → ℕ
@@ -239,43 +241,44 @@ nodes-bracketed n w d x h l = go (ltb n maxFields) (λ t. ltb→lt n maxFields t
         let e : share d (suc n) + 2 ≤ share (suc d) n = omega arith in
         omega (arith, mul-le-mul-left w e, mul-add w (share d (suc n)) 2)
 
-mutual
-  unfolding nodes sizes shape weight
+module _ (sets : Name → ℕ → Bool) where
+  mutual
+    unfolding nodes sizes shape weight
 
-  nodes-alternation : (t : Alternation) (d n : ℕ) → WfAlternation t → depth t ≤ d → suc (nodes (shape t n)) ≤ weight t * share d n
-  nodes-alternation (last q) d n w h =
-      omega (arith, nodes-chain-le (parts q n), nodes-parts q d n w h, at-least (weights q) (share d n))
-  nodes-alternation (or q t) d n w h =
-      omega (
-        arith,
-        nodes-chain-le (parts q n),
-        nodes-parts q d n (w .0) (omega arith),
-        at-least (weights q) (share d n),
-        nodes-alternation t d (n + bracketsWithin q) (w .1) (omega arith),
-        fewer (weight t) d n (bracketsWithin q),
-        add-mul (max 1 (weights q)) (weight t) (share d n),
-      )
+    nodes-alternation : (t : Alternation) (d n : ℕ) → WfAlternation t → depth t ≤ d → suc (nodes (shape sets t n)) ≤ weight t * share d n
+    nodes-alternation (last q) d n w h =
+        omega (arith, nodes-chain-le (parts sets q n), nodes-parts q d n w h, at-least (weights q) (share d n))
+    nodes-alternation (or q t) d n w h =
+        omega (
+          arith,
+          nodes-chain-le (parts sets q n),
+          nodes-parts q d n (w .0) (omega arith),
+          at-least (weights q) (share d n),
+          nodes-alternation t d (n + bracketsWithin q) (w .1) (omega arith),
+          fewer (weight t) d n (bracketsWithin q),
+          add-mul (max 1 (weights q)) (weight t) (share d n),
+        )
 
-  nodes-parts : (q : Sequence) (d n : ℕ) → WfSequence q → depthSequence q ≤ d → sizes (parts q n) ≤ weights q * share d n
-  nodes-parts nothing d n w h = omega arith
-  nodes-parts (part a r q) d n w h =
-      omega (
-        arith,
-        nodes-repeat eager r (shapeAtom a n) (weightAtom a) (share d n) (w .1) (nodes-atom a d n (w .0) (omega arith)) (omega arith),
-        nodes-parts q d (n + bracketsAtom a) (w .2) (omega arith),
-        fewer (weights q) d n (bracketsAtom a),
-        add-mul (repeated r (weightAtom a)) (weights q) (share d n),
-      )
+    nodes-parts : (q : Sequence) (d n : ℕ) → WfSequence q → depthSequence q ≤ d → sizes (parts sets q n) ≤ weights q * share d n
+    nodes-parts nothing d n w h = omega arith
+    nodes-parts (part a r q) d n w h =
+        omega (
+          arith,
+          nodes-repeat eager r (shapeAtom sets a n) (weightAtom a) (share d n) (w .1) (nodes-atom a d n (w .0) (omega arith)) (omega arith),
+          nodes-parts q d (n + bracketsAtom a) (w .2) (omega arith),
+          fewer (weights q) d n (bracketsAtom a),
+          add-mul (repeated r (weightAtom a)) (weights q) (share d n),
+        )
 
-  nodes-atom : (a : Atom) (d n : ℕ) → WfAtom a → depthAtom a ≤ d → suc (nodes (shapeAtom a n)) + 2 ≤ weightAtom a * share d n
-  nodes-atom (byte x) d n w h = omega (arith, one-mul (share d n))
-  nodes-atom dot d n w h = omega (arith, one-mul (share d n))
-  nodes-atom (class c x l) d n w h = omega (arith, one-mul (share d n))
-  nodes-atom (group t) zero n w h = absurd (omega arith)
-  nodes-atom (group t) (suc d) n w h = nodes-bracketed n (weight t) d (shape t (suc n)) (weight-pos t) (nodes-alternation t d (suc n) w (omega arith))
+    nodes-atom : (a : Atom) (d n : ℕ) → WfAtom a → depthAtom a ≤ d → suc (nodes (shapeAtom sets a n)) + 2 ≤ weightAtom a * share d n
+    nodes-atom (byte x) d n w h = omega (arith, one-mul (share d n))
+    nodes-atom dot d n w h = omega (arith, one-mul (share d n))
+    nodes-atom (class c x l) d n w h = omega (arith, one-mul (share d n))
+    nodes-atom (group t) zero n w h = absurd (omega arith)
+    nodes-atom (group t) (suc d) n w h = nodes-bracketed n (weight t) d (shape sets t (suc n)) (weight-pos t) (nodes-alternation t d (suc n) w (omega arith))
 
-pub nodes-within : (p : List ℕ) (t : Alternation) → Reads p t → nodes (writeOut t) ≤ maxParts
+pub nodes-within : (loaded p : List ℕ) (t : Alternation) → Reads p t → nodes (writeOut loaded t) ≤ maxParts
 unfolding writeOut
-nodes-within p t h =
-    rw (number-nodes 0 (shape t 0))
-    (omega (arith, nodes-alternation t 16 0 (h .formed) (h .shallow), mul-le-mul-right 44 (heavy p t h)))
+nodes-within loaded p t h =
+    rw (number-nodes 0 (shape (inNamed loaded) t 0))
+    (omega (arith, nodes-alternation (inNamed loaded) t 16 0 (h .formed) (h .shallow), mul-le-mul-right 44 (heavy p t h)))

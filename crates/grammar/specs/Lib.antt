@@ -3,9 +3,11 @@
 pub mod Grammar
 pub mod Limits
 pub mod Sets
+pub mod Names
 pub mod Brackets
 pub mod WriteOut
 pub mod Eager
 pub mod Before
 pub mod Refusals
+pub mod Loaded
 pub mod Code

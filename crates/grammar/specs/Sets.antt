@@ -1,4 +1,5 @@
--- The sets of bytes: "the named sets come from one fixed table of 256 entries", and the sets of leaves.
+-- The sets of bytes: "the named sets come from one fixed table of 256 entries", or from a carrier's own table that "may replace the fixed one" (request 9), and the sets of
+-- leaves by a table.
 -- Assumes nothing.
 use Prim.Native.Nat.{ℕ, _+_, _/_, _%_}
 use mathlib.Core.Bool.{Bool, true, false, not, _&&_, _||_}
@@ -23,7 +24,7 @@ inPosix xdigit b = spans 48 57 b || spans 65 70 b || spans 97 102 b
 inPosix space b = spans 9 13 b || eqb b 32
 inPosix punct b = spans 33 47 b || spans 58 64 b || spans 91 96 b || spans 123 126 b
 
--- The bit of a set in an entry, from alpha, the highest, to punct.
+-- The bit of a set in an entry: "each byte holding, most significant first: alpha, digit, alnum, upper, lower, xdigit, space, punct".
 abbrev pub bitOf : Name → ℕ
 bitOf alpha = 128
 bitOf digit = 64
@@ -50,23 +51,30 @@ entry (n ∷ l) b = bitIf (inPosix n b) (bitOf n) + entry l b
 unfoldable pub setTable : List ℕ
 setTable = map (entry names) (from 0 256)
 
--- Whether a table has the byte b in the set n. A number from 256 on has no entry.
+-- Whether an entry has a bit, and a set.
+abbrev pub isOn : ℕ → ℕ → Bool
+isOn e bit = eqb (e / bit % 2) 1
+
+abbrev pub hasSet : ℕ → Name → Bool
+hasSet e n = isOn e (bitOf n)
+
+-- Whether the table that is loaded has the byte b in the set n. A number from 256 on has no entry.
 abbrev pub inNamed : List ℕ → Name → ℕ → Bool
-inNamed table n b = eqb (getD table b 0 / bitOf n % 2) 1
+inNamed loaded n b = hasSet (getD loaded b 0) n
 
--- The sets of items, and of a class: "perhaps `^` (all bytes not listed)".
-abbrev pub inItem : Item → ℕ → Bool
-inItem (single x) b = eqb b (value x)
-inItem (range x y) b = spans (value x) (value y) b
-inItem (named n) b = inNamed setTable n b
+-- The sets of items, and of a class, by the eight named sets: "perhaps `^` (all bytes not listed)".
+abbrev pub inItem : (Name → ℕ → Bool) → Item → ℕ → Bool
+inItem sets (single x) b = eqb b (value x)
+inItem sets (range x y) b = spans (value x) (value y) b
+inItem sets (named n) b = sets n b
 
-abbrev pub inItems : List Item → ℕ → Bool
-inItems [] b = false
-inItems (x ∷ l) b = inItem x b || inItems l b
+abbrev pub inItems : (Name → ℕ → Bool) → List Item → ℕ → Bool
+inItems sets [] b = false
+inItems sets (x ∷ l) b = inItem sets x b || inItems sets l b
 
 abbrev pub negated : Bool → Bool → Bool
 negated true c = not c
 negated false c = c
 
-abbrev pub inClass : Bool → List Item → ℕ → Bool
-inClass c l b = negated c (inItems l b)
+abbrev pub inClass : (Name → ℕ → Bool) → Bool → List Item → ℕ → Bool
+inClass sets c l b = negated c (inItems sets l b)

@@ -6,8 +6,8 @@ use mathlib.Core.List.{List, [], _∷_, _++_}
 use lib.ListN.{replicate}
 use lib.Dec.{eqb, ltb}
 use Rattle.theory.specs.Pattern.{Manner, eager, lazy, Re, empty, leaf, seq, star, alt, field, opt, number}
-use Rattle.grammar.specs.Grammar.{value, digitsValue, Repeat, once, many, more, maybe, exactly, atLeast, between, lazily, Alternation, last, or, Sequence, nothing, part, Atom, byte, dot, class, group}
-use Rattle.grammar.specs.Sets.{inClass}
+use Rattle.grammar.specs.Grammar.{Name, value, digitsValue, Repeat, once, many, more, maybe, exactly, atLeast, between, lazily, Alternation, last, or, Sequence, nothing, part, Atom, byte, dot, class, group}
+use Rattle.grammar.specs.Sets.{inNamed, inClass}
 use Rattle.grammar.specs.Brackets.{bracketsWithin, bracketsAtom, maxFields}
 
 -- A leaf with its set of bytes, its number still to come. No number from 256 on is a byte.
@@ -44,22 +44,23 @@ repeatOf r x = repeatBy eager r x
 unfoldable pub bracketed : ℕ → Re → Re
 bracketed n x = cond (ltb n maxFields) (field (suc n) x) x
 
--- The parts after n opening brackets, their leaves not yet numbered. "`.` is every byte but 10." "Copies written out by a repeat belong to the same field."
+-- The parts after n opening brackets, their leaves not yet numbered, by the named sets. "`.` is every byte but 10." "Copies written out by a repeat belong to the same
+-- field."
 unfoldable mutual
-  pub shape : Alternation → ℕ → Re
-  shape (last q) n = chain (parts q n)
-  shape (or q t) n = alt (chain (parts q n)) (shape t (n + bracketsWithin q))
+  pub shape : (Name → ℕ → Bool) → Alternation → ℕ → Re
+  shape sets (last q) n = chain (parts sets q n)
+  shape sets (or q t) n = alt (chain (parts sets q n)) (shape sets t (n + bracketsWithin q))
 
-  pub parts : Sequence → ℕ → List Re
-  parts nothing n = []
-  parts (part a r q) n = repeatOf r (shapeAtom a n) ∷ parts q (n + bracketsAtom a)
+  pub parts : (Name → ℕ → Bool) → Sequence → ℕ → List Re
+  parts sets nothing n = []
+  parts sets (part a r q) n = repeatOf r (shapeAtom sets a n) ∷ parts sets q (n + bracketsAtom a)
 
-  pub shapeAtom : Atom → ℕ → Re
-  shapeAtom (byte x) n = leafOf (λ b. eqb b (value x))
-  shapeAtom dot n = leafOf (λ b. not (eqb b 10))
-  shapeAtom (class c x l) n = leafOf (inClass c (x ∷ l))
-  shapeAtom (group t) n = bracketed n (shape t (suc n))
+  pub shapeAtom : (Name → ℕ → Bool) → Atom → ℕ → Re
+  shapeAtom sets (byte x) n = leafOf (λ b. eqb b (value x))
+  shapeAtom sets dot n = leafOf (λ b. not (eqb b 10))
+  shapeAtom sets (class c x l) n = leafOf (inClass sets c (x ∷ l))
+  shapeAtom sets (group t) n = bracketed n (shape sets t (suc n))
 
--- The "written-out pattern" of a tree.
-unfoldable pub writeOut : Alternation → Re
-writeOut t = number 0 (shape t 0)
+-- The "written-out pattern" of a tree. "Spans and verdicts are then those of the sets loaded" (request 9): those of the table that is loaded.
+unfoldable pub writeOut : List ℕ → Alternation → Re
+writeOut loaded t = number 0 (shape (inNamed loaded) t 0)

@@ -2,12 +2,14 @@
 -- Assumes nothing.
 use mathlib.Core.Path.{_≡_, refl, sym, ap, ap₂, _∙_}
 use Prim.Native.Nat.{ℕ, zero, suc, _+_, _*_, _-_}
+use mathlib.Core.Bool.{Bool}
 use mathlib.Core.List.{List, [], _∷_, _++_}
 use native.Mathlib.Omega.{arith}
 use native.Mathlib.Nat.{zero-mul, suc-mul}
 use lib.ListN.{replicate}
 use Rattle.theory.specs.Pattern.{Manner, eager, lazy, Re, empty, leaf, seq, alt, star, field, opt, count, number}
-use Rattle.grammar.specs.Grammar.{digitsValue, Repeat, once, many, more, maybe, exactly, atLeast, between, lazily, Alternation, last, or, Sequence, nothing, part, Atom, byte, dot, class, group, WfAlternation, WfSequence, WfAtom, WfRepeat}
+use Rattle.grammar.specs.Grammar.{Name, digitsValue, Repeat, once, many, more, maybe, exactly, atLeast, between, lazily, Alternation, last, or, Sequence, nothing, part, Atom, byte, dot, class, group, WfAlternation, WfSequence, WfAtom, WfRepeat}
+use Rattle.grammar.specs.Sets.{inNamed}
 use Rattle.grammar.specs.Brackets.{bracketsWithin, bracketsAtom}
 use Rattle.grammar.specs.WriteOut.{chain, optional, repeatBy, bracketed, shape, parts, shapeAtom, writeOut}
 use Rattle.grammar.proofs.Size.{count-sum, measure-bracketed}
@@ -80,25 +82,26 @@ repeat-extent how (between m n) x v =
     (copies-add (digitsValue m) (digitsValue n - digitsValue m) (extent x .greatest) ∙ ap (λ k. copies k (extent x .greatest)) (count-sum m n v))
 repeat-extent how (lazily r) x v = repeat-extent lazy r x (v .0)
 
-mutual
-  unfolding extent shape lengths
+module _ (sets : Name → ℕ → Bool) where
+  mutual
+    unfolding extent shape lengths
 
-  alternation-extent : (t : Alternation) (n : ℕ) → WfAlternation t → extent (shape t n) ≡ lengths t
-  alternation-extent (last q) n w = row-chain (parts q n) ∙ sequence-extent q n w
-  alternation-extent (or q t) n w = ap₂ oneOf (row-chain (parts q n) ∙ sequence-extent q n (w .0)) (alternation-extent t (n + bracketsWithin q) (w .1))
+    alternation-extent : (t : Alternation) (n : ℕ) → WfAlternation t → extent (shape sets t n) ≡ lengths t
+    alternation-extent (last q) n w = row-chain (parts sets q n) ∙ sequence-extent q n w
+    alternation-extent (or q t) n w = ap₂ oneOf (row-chain (parts sets q n) ∙ sequence-extent q n (w .0)) (alternation-extent t (n + bracketsWithin q) (w .1))
 
-  sequence-extent : (q : Sequence) (n : ℕ) → WfSequence q → row (parts q n) ≡ lengthsWithin q
-  sequence-extent nothing n w = refl
-  sequence-extent (part a r q) n w =
-      ap₂ inRow (repeat-extent eager r (shapeAtom a n) (w .1) ∙ ap (underRepeat r) (atom-extent a n (w .0))) (sequence-extent q (n + bracketsAtom a) (w .2))
+    sequence-extent : (q : Sequence) (n : ℕ) → WfSequence q → row (parts sets q n) ≡ lengthsWithin q
+    sequence-extent nothing n w = refl
+    sequence-extent (part a r q) n w =
+        ap₂ inRow (repeat-extent eager r (shapeAtom sets a n) (w .1) ∙ ap (underRepeat r) (atom-extent a n (w .0))) (sequence-extent q (n + bracketsAtom a) (w .2))
 
-  atom-extent : (a : Atom) (n : ℕ) → WfAtom a → extent (shapeAtom a n) ≡ lengthsAtom a
-  atom-extent (byte x) n w = refl
-  atom-extent dot n w = refl
-  atom-extent (class c x l) n w = refl
-  atom-extent (group t) n w = bracket-extent n (shape t (suc n)) ∙ alternation-extent t (suc n) w
+    atom-extent : (a : Atom) (n : ℕ) → WfAtom a → extent (shapeAtom sets a n) ≡ lengthsAtom a
+    atom-extent (byte x) n w = refl
+    atom-extent dot n w = refl
+    atom-extent (class c x l) n w = refl
+    atom-extent (group t) n w = bracket-extent n (shape sets t (suc n)) ∙ alternation-extent t (suc n) w
 
--- OF THE TREE AND WRITTEN OUT: the same lengths.
-pub lengths-written : (t : Alternation) → WfAlternation t → extent (writeOut t) ≡ lengths t
+-- OF THE TREE AND WRITTEN OUT: the same lengths, whatever table of named sets is loaded.
+pub lengths-written : (loaded : List ℕ) (t : Alternation) → WfAlternation t → extent (writeOut loaded t) ≡ lengths t
 unfolding writeOut
-lengths-written t w = number-extent 0 (shape t 0) ∙ alternation-extent t 0 w
+lengths-written loaded t w = number-extent 0 (shape (inNamed loaded) t 0) ∙ alternation-extent (inNamed loaded) t 0 w

@@ -117,7 +117,9 @@ fn lend(
 ) -> Verdict
     requires { ⌜ (t ≤ length (now table)) × (w ≤ length (now witness)) × (a ≤ length (now area)) ⌝ }
 {
+    let fixed = sets::fixed();
     checker::check(
+        &fixed,
         lines::first_of(pattern, p),
         &mut table[..t],
         &mut witness[..w],

@@ -23,7 +23,20 @@ fn serve(
 ) -> State
     ensures { λ r. ⌜ r .used ≡ 0 ⌝ }
 {
-    let answer = orders::prepare(line, first, masks, rows, lens, sets, ends, next, hows);
+    let fixed = sets::fixed();
+    let answer = orders::prepare(
+        &fixed,
+        line,
+        first,
+        0,
+        masks,
+        rows,
+        lens,
+        sets,
+        ends,
+        next,
+        hows,
+    );
     let Answer::Refused { number, place } = answer else {
         let marks = [0u16; 4225];
         return orders::run(

@@ -12,9 +12,9 @@ use Rattle.theory.specs.Pattern.{Re}
 use Rattle.theory.specs.Demand.{GreedyTakes, PosixTakes, NoMatch}
 use Rattle.theory.proofs.Demand.{greedy-takes, posix-takes, greedy-none}
 use Rattle.grammar.specs.Grammar.{Alternation}
-use Rattle.grammar.specs.Limits.{Reads}
+use Rattle.grammar.specs.Loaded.{Accepts}
 use Rattle.grammar.specs.WriteOut.{writeOut}
-use Rattle.grammar.proofs.Right.{unambiguous, not-both}
+use Rattle.grammar.proofs.Loaded.{one-tree, accepts-not-refuses}
 use Rattle.reader.specs.declared.Answer.{Answer}
 use Rattle.matchers.specs.Tables.{Tables, Ready}
 use Rattle.readings.specs.Tables.{Prepared, ready, refused}
@@ -54,19 +54,19 @@ order-kept r l w =
     first h (OrderLine.uncut i g p is) = absurd (omega arith)
 
 -- The tables that a pattern of the grammar is prepared with are its own,
-module _ {p : List ℕ} (a : Alternation) (reads : Reads p a) {old new : Tables} {x : Answer} (prepared : Prepared p old x new) where
-  own-tables : Ready (writeOut a) new
+module _ {loaded p : List ℕ} (a : Alternation) (reads : Accepts loaded p a) {old new : Tables} {x : Answer} (prepared : Prepared loaded p old x new) where
+  own-tables : Ready (writeOut loaded a) new
   own-tables = go prepared
     where
-      go : Prepared p old x new → Ready (writeOut a) new
-      go (ready {a = b} e h t) = subst (λ c. Ready (writeOut c) new) (unambiguous p b a h reads) t
-      go (refused {n = n} {k = k} e f q) = absurd (not-both p a n k reads f)
+      go : Prepared loaded p old x new → Ready (writeOut loaded a) new
+      go (ready {a = b} e h t) = subst (λ c. Ready (writeOut loaded c) new) (one-tree loaded p b a h reads) t
+      go (refused {n = n} {k = k} e f q) = absurd (accepts-not-refuses loaded p a n k reads f)
 
   -- THE ANSWER TO AN ORDER LINE IS THE PATTERN'S, whatever the line: nothing is left to be asked of the tables.
-  pub order-answered : {marks l out out′ : List ℕ} {n m : ℕ} → Answered spans (lent new marks) l out n out′ m → Printed 392 (OrderLine (writeOut a) l) out n out′ m
-  order-answered h = h .answered (writeOut a) own-tables
+  pub order-answered : {marks l out out′ : List ℕ} {n m : ℕ} → Answered spans (lent new marks) l out n out′ m → Printed 392 (OrderLine (writeOut loaded a) l) out n out′ m
+  order-answered h = h .answered (writeOut loaded a) own-tables
 
   -- and so are the answers to the lines of a chunk.
   pub orders-answered : {marks chunk line out line′ out′ : List ℕ} {s t : State} → OrdersServed spans (lent new marks) chunk line out s line′ out′ t
-      → Served (OrderAnswer spans (writeOut a)) 392 chunk line out tt s line′ out′ tt t
-  orders-answered h = h .served (writeOut a) own-tables
+      → Served (OrderAnswer spans (writeOut loaded a)) 392 chunk line out tt s line′ out′ tt t
+  orders-answered h = h .served (writeOut loaded a) own-tables

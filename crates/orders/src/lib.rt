@@ -1,4 +1,5 @@
 // What programs print for order lines: both spans, 'none' or a refusal (paper 01, "The programs"), or the greedy span with its fields (request 2).
+ghost use mathlib.Core.Path.{_≡_};
 ghost use Rattle.lines.specs.Exchange.{Finished};
 ghost use lib.ListN.{take};
 ghost use Prim.Native.Nat.{_<_, _≤_};
@@ -19,10 +20,19 @@ pub const MAX_BYTES: usize = 1024;
 // No printed line is longer: 'greedy', two numbers, 'fields' and sixteen numbers, each of at most 20 digits.
 const LONGEST: usize = 392;
 
-// Prepares the pattern on the line that is read.
+// The pattern on the line that is read, after its first `skip` bytes.
+fn pattern_after(line: &[u8; KEPT], n: usize, skip: usize) -> &[u8]
+    ensures { λ r. ⌜ now r ≡ drop skip (take n (now (line .entry))) ⌝ }
+{
+    lines::past_first(lines::first_of(line, n), skip)
+}
+
+// Prepares the pattern on the line that is read, after its first `skip` bytes, with the table of named sets that is loaded.
 pub fn prepare(
+    loaded: &[u8],
     line: &[u8; KEPT],
     state: State,
+    skip: usize,
     masks: &mut [u64; 256],
     rows: &mut [u8; 4225],
     lens: &mut [u8; 65],
@@ -31,16 +41,17 @@ pub fn prepare(
     next: &mut [u64; 257],
     hows: &mut [u8; 10],
 ) -> Answer
-    ensures prepared { λ r. ⌜ Prepared (take (state .n) (now (line .entry)))
+    ensures prepared { λ r. ⌜ Prepared (now (loaded .entry)) (drop skip (take (state .n) (now (line .entry))))
         (tables (now (masks .entry)) (now (rows .entry)) (now (lens .entry)) (now (sets .entry)) (now (ends .entry)) (now (next .entry)) (now (hows .entry))) r
         (tables (now (masks .exit)) (now (rows .exit)) (now (lens .exit)) (now (sets .exit)) (now (ends .exit)) (now (next .exit)) (now (hows .exit))) ⌝ }
 {
-    let pattern = lines::first_of(line, state.n);
-    readings::prepare(pattern, masks, rows, lens, sets, ends, next, hows)
+    let pattern = pattern_after(line, state.n, skip);
+    readings::prepare(loaded, pattern, masks, rows, lens, sets, ends, next, hows)
 }
 
-// Prepares the pattern on the line that is read, after its first `skip` bytes, for fields.
+// The same for fields.
 pub fn prepare_fields(
+    loaded: &[u8],
     line: &[u8; KEPT],
     state: State,
     skip: usize,
@@ -53,12 +64,23 @@ pub fn prepare_fields(
     hows: &mut [u8; 10],
     marks: &mut [u16; 4225],
 ) -> fields::Prepared
-    ensures prepared { λ r. ⌜ Prepares (drop skip (take (state .n) (now (line .entry))))
+    ensures prepared { λ r. ⌜ Prepares (now (loaded .entry)) (drop skip (take (state .n) (now (line .entry))))
         (lent (tables (now (masks .entry)) (now (rows .entry)) (now (lens .entry)) (now (sets .entry)) (now (ends .entry)) (now (next .entry)) (now (hows .entry))) (now (marks .entry))) r
         (lent (tables (now (masks .exit)) (now (rows .exit)) (now (lens .exit)) (now (sets .exit)) (now (ends .exit)) (now (next .exit)) (now (hows .exit))) (now (marks .exit))) ⌝ }
 {
-    let pattern = lines::past_first(lines::first_of(line, state.n), skip);
-    fields::prepare(pattern, masks, rows, lens, sets, ends, next, hows, marks)
+    let pattern = pattern_after(line, state.n, skip);
+    fields::prepare(
+        loaded,
+        pattern,
+        masks,
+        rows,
+        lens,
+        sets,
+        ends,
+        next,
+        hows,
+        marks,
+    )
 }
 
 // Both spans of a line.

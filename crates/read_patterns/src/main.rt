@@ -28,7 +28,8 @@ fn members(masks: &[u64; 256]) -> u64 {
 fn answer(out: &mut [u8; SIZE], pattern: &[u8]) -> usize
     ensures { λ r. ⌜ Printed 129 (Told (now (pattern .entry))) (now (out .entry)) 0 (now (out .exit)) r ⌝ }
 {
-    let reading = reader::read(pattern);
+    let fixed = sets::fixed();
+    let reading = reader::read(&fixed, pattern);
     let answer = reading.answer;
     let arrays = reading.pattern;
     let own = reading.lengths;

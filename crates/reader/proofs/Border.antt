@@ -13,10 +13,12 @@ use Rattle.theory.proofs.Numbering.{number-count}
 use Rattle.grammar.specs.Grammar.{alternation}
 use Rattle.grammar.specs.Limits.{heaviest, Reads}
 use Rattle.grammar.specs.Brackets.{brackets, openings, maxFields, ninth}
+use Rattle.grammar.specs.Sets.{inNamed}
 use Rattle.grammar.specs.WriteOut.{shape, writeOut}
 use Rattle.grammar.specs.Before.{Before, start, text}
 use Rattle.grammar.specs.Refusals.{Fault, tooLong, wrong, tooHeavy, unopened}
 use Rattle.grammar.specs.Refusals as Due
+use Rattle.grammar.specs.Loaded.{Passes, Refuses, by-sets, by-pattern}
 use Rattle.grammar.specs.Code.Codes.{tokenOf}
 use Rattle.grammar.proofs.Size.{weight-heaviest, leaves-64, nodes-within, number-nodes}
 use Rattle.grammar.proofs.Tokens.{tokens-length}
@@ -38,18 +40,27 @@ use Rattle.reader.specs.declared.Answer.{Answer}
 use Rattle.reader.specs.declared.Answer.the-variants.{Accepted}
 use Rattle.reader.specs.declared.Answer.the-variants as Answer
 use Rattle.reader.specs.declared.Brackets.{Brackets}
-use Rattle.reader.specs.Reading.{noBrackets, bracketsDue, ReadRight, accepted}
+use Rattle.reader.specs.declared.Reading.{Reading}
+use Rattle.reader.specs.Reading.{meaning as means, Beside, noBrackets, bracketsDue, Unread, ReadRight, accepted}
 use Rattle.reader.specs.Steps.{andMore, Weighs, light, heavy, Alternated, AlternationRead, found-part, found-fault, answerBy, lengthsBy}
 use Rattle.grammar.proofs.Openings.{openings-count}
 use Rattle.reader.proofs.Passed.{all-brackets}
 use Rattle.reader.proofs.Begins.{byte-drop, drop-all}
 
--- What stands beside a refusal says nothing.
-abbrev Bare : Pattern → Brackets → Lengths → Type 0
-Bare x g l = (x ≡ blank) × (g ≡ noBrackets) × (meaning l ≡ noByte)
+-- A refusal with nothing beside it is right.
+pub read-refused : {loaded p : List ℕ} {n q : ℕ} {r : Reading} → Refuses loaded p n q → Unread (Answer.Refused n q) r → ReadRight loaded p r
+read-refused {loaded} {p} {n} {q} {r} f u =
+    record {
+      answer = Due.refused n q;
+      right = f;
+      means = ap (λ a. means a (r .pattern)) (u .answer);
+      beside = subst (λ a. Beside a (r .pattern)) (sym (u .answer)) (u .pattern);
+      counted = u .brackets;
+      measured = u .lengths;
+    }
 
-pub read-long : (p : List ℕ) (x : Pattern) (g : Brackets) (l : Lengths) → 255 < length p → Bare x g l → ReadRight p (record { answer = Answer.Refused 1 255; pattern = x; brackets = g; lengths = l })
-read-long p x g l h e = record { answer = Due.refused 1 255; right = tooLong h refl refl; means = refl; beside = e .0; counted = e .1; measured = e .2 }
+pub read-long : {loaded p : List ℕ} {r : Reading} → Passes loaded → 255 < length p → Unread (Answer.Refused 1 255) r → ReadRight loaded p r
+read-long sets h u = read-refused (by-pattern sets (tooLong h refl refl)) u
 
 -- The array before anything is written.
 pub holds-none : HoldsCodes (replicate 2815 0) 0 []
@@ -91,15 +102,15 @@ module _ {p a b : List ℕ} {n m e : ℕ} {c : Size} (short : length p ≤ 255) 
     found-tree h = record { text = whole-text; formed = t .formed; short = short; shallow = omega (arith, t .shallow); light = not-heavy (t .size .load) h }
 
     -- Its codes all fit, so the arrays made of them are the written-out pattern.
-    pub found-written : c .weight ≤ 64 → a ≡ replicate 2815 0 → n ≡ 0 → (x : Pattern) → Finished p (take m b) x → Arrays.HoldsPattern x (writeOut (t .t))
+    pub found-written : c .weight ≤ 64 → a ≡ replicate 2815 0 → n ≡ 0 → (loaded : List ℕ) (x : Pattern) → Finished loaded p (take m b) x → Arrays.HoldsPattern x (writeOut loaded (t .t))
     unfolding writeOut
-    found-written h z y x f =
+    found-written h z y loaded x f =
         let r = found-tree h in
         let holds : HoldsCodes b m (t .wrote .codes) = t .wrote .holds [] (rw (z, y) holds-none) in
         let size : length (t .wrote .codes) ≤ 2815 =
-        omega (arith, sym (length-map (t .wrote .codes) (tokenOf p)) ∙ ap length (t .wrote .are) ∙ tokens-length (shape (t .t) 0), number-nodes 0 (shape (t .t) 0), nodes-within p (t .t) r) in
+        omega (arith, sym (length-map (t .wrote .codes) (tokenOf loaded p)) ∙ ap length (t .wrote .are loaded) ∙ tokens-length (shape (inNamed loaded) (t .t) 0), number-nodes 0 (shape (inNamed loaded) (t .t) 0), nodes-within loaded p (t .t) r) in
         let codes : take m b ≡ t .wrote .codes = holds .same ∙ take-all 2815 (t .wrote .codes) size in
-        f (shape (t .t) 0) (ap (map (tokenOf p)) codes ∙ t .wrote .are) (omega (arith, number-count 0 (shape (t .t) 0), leaves-64 p (t .t) r))
+        f (shape (inNamed loaded) (t .t) 0) (ap (map (tokenOf loaded p)) codes ∙ t .wrote .are loaded) (omega (arith, number-count 0 (shape (inNamed loaded) (t .t) 0), leaves-64 loaded p (t .t) r))
 
     -- Its brackets are all that were passed.
     pub found-brackets : c .weight ≤ 64 → g ≡ bracketsDue (Due.accepted (t .t))
@@ -114,50 +125,52 @@ module _ {p a b : List ℕ} {n m e : ℕ} {c : Size} (short : length p ≤ 255) 
     pub found-lengths : c .weight ≤ 64 → meaning (c .lengths) ≡ lengths (t .t)
     found-lengths h = t .size .lengths ∙ counted-whole p (t .t) (found-tree h)
 
--- The answer is right, with what was made for an accepted pattern, and with nothing for any other.
-module _ (p : List ℕ) (short : length p ≤ 255) (x : Pattern) (k : Brackets) (l : Lengths) where
-  abbrev Right : Answer → Type 0
-  Right r = ReadRight p (record { answer = r; pattern = x; brackets = k; lengths = l })
+-- The answer is right: with nothing beside it where it is a refusal,
+module _ {loaded : List ℕ} (sets : Passes loaded) (p : List ℕ) (short : length p ≤ 255) (b : List ℕ) (m : ℕ) (g : Brackets) where
+  abbrev Begins : Part → Type 0
+  Begins part = AlternationRead p 0 0 (replicate 2815 0) 0 b m noBrackets g part
 
-  abbrev Barely : Answer → Type 0
-  Barely r = (n q : ℕ) → r ≡ Answer.Refused n q → Bare x k l
+  judged-fault : {part : Part} {n q : ℕ} → Begins part → answerBy (length p) part ≡ Answer.Refused n q → Fault p n q
+  judged-fault {n = n} {q = q} (found-fault {k = k} {q = j} f) e = let x : k ≡ n = cc in let y : j ≡ q = cc in subst (λ i. Fault p i q) x (subst (Fault p k) y f)
+  judged-fault {n = n} {q = q} (found-part {e = end} {c = c} t) e = go (ltb end (length p)) (ltb→lt end (length p)) (λ n. nltb→le end (length p) n) e
+    where
+      weigh : (d : Bool) → (T d → 64 < c .weight) → length p ≤ end → cond d (Answer.Refused 8 end) Accepted ≡ Answer.Refused n q → Fault p n q
+      weigh true a l e = let x : 8 ≡ n = cc in let y : end ≡ q = cc in subst (λ i. Fault p i q) x (subst (Fault p 8) y (found-heavy short t l (a tt)))
+      weigh false a l e = absurd (let z : _≡_ {A = ℕ} 0 1 = cc in omega arith)
 
-  refuse : (r : Answer) (n q : ℕ) → r ≡ Answer.Refused n q → Fault p n q → Barely r → Right r
-  refuse r n q e f h = let z = h n q e in rw e (record { answer = Due.refused n q; right = f; means = refl; beside = z .0; counted = z .1; measured = z .2 })
+      go : (d : Bool) → (T d → end < length p) → (T (not d) → length p ≤ end) → cond d (Answer.Refused 2 end) (cond (ltb 64 (c .weight)) (Answer.Refused 8 end) Accepted) ≡ Answer.Refused n q → Fault p n q
+      go true a l e = let x : 2 ≡ n = cc in let y : end ≡ q = cc in subst (λ i. Fault p i q) x (subst (Fault p 2) y (found-close short t (a tt)))
+      go false a l e = weigh (ltb 64 (c .weight)) (ltb→lt 64 (c .weight)) (l tt) e
 
-  module _ (b : List ℕ) (m : ℕ) (g : Brackets) where
-    abbrev Full : Answer → Part → Type 0
-    Full r part = r ≡ Accepted → Finished p (take m b) x × (k ≡ g) × (meaning l ≡ lengthsBy part)
+  pub read-judged : {part : Part} {n q : ℕ} {r : Reading} → Begins part → answerBy (length p) part ≡ Answer.Refused n q → Unread (Answer.Refused n q) r → ReadRight loaded p r
+  read-judged f e u = read-refused (by-pattern sets (judged-fault f e)) u
 
-    accept : {e : ℕ} {c : Size} (r : Answer) → r ≡ Accepted → (t : Alternated p 0 0 e c (replicate 2815 0) 0 b m noBrackets g) → length p ≤ e → c .weight ≤ 64 → Full r (Read e c) → Right r
-    accept r q t n h f =
-        let (made, same, long) = f q in
-        let w = found-written short t n h refl refl x made in
-        rw q
-        record {
-          answer = Due.accepted (t .t);
-          right = found-tree short t n h;
-          means = ap accepted (w .decodes);
-          beside = subst (Arrays.HoldsPattern x) (sym (w .decodes)) w;
-          counted = same ∙ found-brackets short t n h;
-          measured = long ∙ found-lengths short t n h;
-        }
+  -- and with what was made for an accepted pattern.
+  pub read-accepted : {part : Part} (x : Pattern) (l : Lengths) → Begins part → answerBy (length p) part ≡ Accepted → Finished loaded p (take m b) x → meaning l ≡ lengthsBy part
+      → ReadRight loaded p (record { answer = Accepted; pattern = x; brackets = g; lengths = l })
+  read-accepted x l (found-fault f) e made long = absurd (let z : _≡_ {A = ℕ} 0 1 = cc in omega arith)
+  read-accepted x l (found-part {e = end} {c = c} t) e made long = go (ltb end (length p)) (λ n. nltb→le end (length p) n) e
+    where
+      accept : length p ≤ end → c .weight ≤ 64 → ReadRight loaded p (record { answer = Accepted; pattern = x; brackets = g; lengths = l })
+      accept n h =
+          let w = found-written short t n h refl refl loaded x made in
+          record {
+            answer = Due.accepted (t .t);
+            right = record { sets = sets; reads = found-tree short t n h };
+            means = ap accepted (w .decodes);
+            beside = subst (Arrays.HoldsPattern x) (sym (w .decodes)) w;
+            counted = found-brackets short t n h;
+            measured = long ∙ found-lengths short t n h;
+          }
 
-    pub read-right : {part : Part} (r : Answer) → AlternationRead p 0 0 (replicate 2815 0) 0 b m noBrackets g part → r ≡ answerBy (length p) part → Full r part → Barely r → Right r
-    read-right r (found-fault {k = k} {q = q} f) e full bare = refuse r k q e f bare
-    read-right r (found-part {e = end} {c = c} t) e full bare = go (ltb end (length p)) (ltb→lt end (length p)) (λ n. nltb→le end (length p) n) e
-      where
-        weigh : (d : Bool) → (T d → 64 < c .weight) → (T (not d) → c .weight ≤ 64) → length p ≤ end → r ≡ cond d (Answer.Refused 8 end) Accepted → Right r
-        weigh true a b n e = refuse r 8 end e (found-heavy short t n (a tt)) bare
-        weigh false a b n e = accept r e t n (b tt) full
+      weigh : (d : Bool) → (T (not d) → c .weight ≤ 64) → length p ≤ end → cond d (Answer.Refused 8 end) Accepted ≡ Accepted → ReadRight loaded p (record { answer = Accepted; pattern = x; brackets = g; lengths = l })
+      weigh true a n e = absurd (let z : _≡_ {A = ℕ} 0 1 = cc in omega arith)
+      weigh false a n e = accept n (a tt)
 
-        go : (d : Bool) → (T d → end < length p) → (T (not d) → length p ≤ end) → r ≡ cond d (Answer.Refused 2 end) (cond (ltb 64 (c .weight)) (Answer.Refused 8 end) Accepted) → Right r
-        go true a b e = refuse r 2 end e (found-close short t (a tt)) bare
-        go false a b e = weigh (ltb 64 (c .weight)) (ltb→lt 64 (c .weight)) (λ n. nltb→le 64 (c .weight) n) (b tt) e
-
--- No answer is both.
-pub not-both : {A : Type 0} {k q : ℕ} {r : Answer} → r ≡ Answer.Refused k q → r ≡ Accepted → A
-not-both e f = let z : _≡_ {A = ℕ} 0 1 = cc in absurd (omega arith)
+      go : (d : Bool) → (T (not d) → length p ≤ end) → cond d (Answer.Refused 2 end) (cond (ltb 64 (c .weight)) (Answer.Refused 8 end) Accepted) ≡ Accepted
+          → ReadRight loaded p (record { answer = Accepted; pattern = x; brackets = g; lengths = l })
+      go true n e = absurd (let z : _≡_ {A = ℕ} 0 1 = cc in omega arith)
+      go false n e = weigh (ltb 64 (c .weight)) (λ k. nltb→le 64 (c .weight) k) (n tt) e
 
 -- The answer by what was found.
 pub answer-refused : {k q : ℕ} (n : ℕ) (part : Part) → part ≡ Refused k q → Answer.Refused k q ≡ answerBy n part

@@ -12,6 +12,7 @@ use Rattle.theory.specs.Pattern.{Manner, Re}
 use Rattle.grammar.specs.Grammar.{plain, escaped, Repeat, once, many, more, maybe, exactly, atLeast, between, lazily, unmarked, Digits, digitsValue, last, or, Sequence, nothing, part, Atom, byte, dot, class, group, repeatText, alternation, sequence, atom, WfAtom, WfRepeat}
 use Rattle.grammar.specs.Limits.{depthAtom, repeated, weight, weights, weightAtom, heaviest, heaviestWithin, heaviestAtom}
 use Rattle.grammar.specs.Brackets.{bracketsWithin, bracketsAtom, openings, openingsAtom, maxFields}
+use Rattle.grammar.specs.Sets.{inNamed}
 use Rattle.grammar.specs.WriteOut.{chain, optional, bracketed, shape, parts, shapeAtom, repeatBy, repeatOf}
 use Rattle.grammar.specs.Refusals.{Fault}
 use Rattle.grammar.specs.Code.Reader.{found, readClass, readCount}
@@ -38,23 +39,26 @@ use Rattle.reader.proofs.Begins.{never, at-drop, byte-drop, drop-all, h
 
 -- Writing.
 module _ {p : List ℕ} where
-  pub wrote-none : (a : List ℕ) (n : ℕ) → Wrote p a n a n []
-  wrote-none a n = record { codes = []; are = refl; holds = λ l h. rw append-nil h }
+  pub wrote-none : (a : List ℕ) (n : ℕ) → Wrote p a n a n (λ loaded. [])
+  wrote-none a n = record { codes = []; are = λ loaded. refl; holds = λ l h. rw append-nil h }
 
-  pub wrote-added : {a b : List ℕ} {n m : ℕ} (c : ℕ) (ts : List Token) → map (tokenOf p) (c ∷ []) ≡ ts → Added a n (c ∷ []) b m → Wrote p a n b m ts
+  pub wrote-added : {a b : List ℕ} {n m : ℕ} (c : ℕ) (ts : List ℕ → List Token) → ((loaded : List ℕ) → map (tokenOf loaded p) (c ∷ []) ≡ ts loaded) → Added a n (c ∷ []) b m → Wrote p a n b m ts
   wrote-added c ts e h = record { codes = c ∷ []; are = e; holds = h .holds }
 
-  pub wrote-then : {a b c : List ℕ} {n m k : ℕ} {ts us : List Token} → Wrote p a n b m ts → Wrote p b m c k us → Wrote p a n c k (ts ++ us)
+  pub wrote-then : {a b c : List ℕ} {n m k : ℕ} {ts us : List ℕ → List Token} → Wrote p a n b m ts → Wrote p b m c k us → Wrote p a n c k (λ loaded. ts loaded ++ us loaded)
   wrote-then x y =
       record {
         codes = x .codes ++ y .codes;
-        are = map-append (tokenOf p) (x .codes) (y .codes) ∙ rw (x .are, y .are);
+        are = λ loaded. map-append (tokenOf loaded p) (x .codes) (y .codes) ∙ rw (x .are loaded, y .are loaded);
         holds = λ l h. rw (← append-assoc l (x .codes) (y .codes)) (y .holds (l ++ x .codes) (x .holds l h));
       }
 
+  pub wrote-same : {a b : List ℕ} {n m : ℕ} {ts us : List ℕ → List Token} → ((loaded : List ℕ) → ts loaded ≡ us loaded) → Wrote p a n b m ts → Wrote p a n b m us
+  wrote-same e x = record { codes = x .codes; are = λ loaded. x .are loaded ∙ e loaded; holds = x .holds }
+
   -- A part that was written and then became another.
-  pub wrote-rewrote : {a b c : List ℕ} {n m k : ℕ} {y z : Re} → Wrote p a n b m (tokens y) → Rewrote p b m n c k y z → Wrote p a n c k (tokens z)
-  wrote-rewrote x r = record { codes = r .codes (x .codes); are = r .are (x .codes) (x .are); holds = λ l h. r .holds l (x .codes) (x .holds l h) (h .used) }
+  pub wrote-rewrote : {a b c : List ℕ} {n m k : ℕ} {f : Re → Re} (y : List ℕ → Re) → Wrote p a n b m (λ loaded. tokens (y loaded)) → Rewrote p b m n c k f → Wrote p a n c k (λ loaded. tokens (f (y loaded)))
+  wrote-rewrote y x r = record { codes = r .codes (x .codes); are = λ loaded. r .are loaded (x .codes) (y loaded) (x .are loaded); holds = λ l h. r .holds l (x .codes) (x .holds l h) (h .used) }
 
 -- An atom that is no group, with the brackets that are there.
 pub single : {p : List ℕ} {G : Brackets → ℕ → Size → Type 0} {r : Part} (g : Brackets) → PartRead p (λ e c. (h : Brackets) → G h e c) r → PartRead p (G g) r
@@ -77,13 +81,13 @@ module _ {p : List ℕ} {F : ℕ → Size → Type 0} where
 
 -- Repeats.
 rewrote : {p : List ℕ} {n from m : ℕ} {a b : List ℕ} (how : Manner) (x : Repeat) (f : List ℕ → List ℕ) → Rewritten a n from f b m
-    → ((k : List ℕ) (y : Re) → map (tokenOf p) k ≡ tokens y → map (tokenOf p) (f k) ≡ tokens (repeatBy how x y)) → (y : Re) → Rewrote p a n from b m y (repeatBy how x y)
-rewrote how x f r g y = record { codes = f; are = λ k. g k y; holds = r .holds }
+    → ((loaded k : List ℕ) (y : Re) → map (tokenOf loaded p) k ≡ tokens y → map (tokenOf loaded p) (f k) ≡ tokens (repeatBy how x y)) → Rewrote p a n from b m (repeatBy how x)
+rewrote how x f r g = record { codes = f; are = g; holds = r .holds }
 
 -- A repeat x that ends at e, with the sign after it or without.
 module _ {p : List ℕ} {at n from m : ℕ} {v c : Size} {a b : List ℕ} where
   found-repeat : (x : Repeat) (e : ℕ) (lazy : Bool) → lazy ≡ firstHolds (drop e p) 63 → WfRepeat x → unmarked x ≡ true → repeatText x (drop e p) ≡ drop at p → at ≤ e → e ≤ length p
-      → ((y : Re) → Rewrote p a n from b m y (repeatBy (manner lazy) x y)) → Sizes v c x → Repeated p at v (signEnd p e) c a n from b m
+      → Rewrote p a n from b m (repeatBy (manner lazy) x) → Sizes v c x → Repeated p at v (signEnd p e) c a n from b m
   found-repeat x e true q w o t f i r l =
       let (j, d) = held-here p e 63 (sym q) in
       rw (← q) record { x = lazily x; formed = (w, o); text = ap (repeatText x) (sym d) ∙ t; forward = omega arith; inside = omega arith; settled = never; unsigned = never; wrote = r; size = l }
@@ -93,28 +97,28 @@ module _ {p : List ℕ} {at n from m : ℕ} {v c : Size} {a b : List ℕ} where
   -- A sign.
   module _ (h : at < length p) (lazy : Bool) (q : lazy ≡ firstHolds (drop (at + 1) p) 63) where
     sign-here : (x : Repeat) (k : ℕ) → getD p at 0 ≡ k → WfRepeat x → unmarked x ≡ true → ((s : List ℕ) → repeatText x s ≡ k ∷ s)
-        → ((y : Re) → Rewrote p a n from b m y (repeatBy (manner lazy) x y)) → Sizes v c x → Repeated p at v (signEnd p (at + 1)) c a n from b m
+        → Rewrote p a n from b m (repeatBy (manner lazy) x) → Sizes v c x → Repeated p at v (signEnd p (at + 1)) c a n from b m
     sign-here x k e w o t r l = found-repeat x (at + 1) lazy q w o (t (drop (at + 1) p) ∙ sym (byte-drop p at k h e)) (omega arith) (omega arith) r l
 
     pub many-here : Sized c (loadOf 1 (v .weight)) (capped (orMore 0 (meaning (v .lengths)))) → getD p at 0 ≡ 42 → Rewritten a n from (λ k. k ++ (starOf (manner lazy) ∷ [])) b m
         → Repeated p at v (signEnd p (at + 1)) c a n from b m
     many-here d e r =
-        sign-here many 42 e tt refl (λ s. refl) (rewrote (manner lazy) many (λ k. k ++ (starOf (manner lazy) ∷ [])) r (λ k y x. star-codes p k y x (manner lazy))) (many-sizes d)
+        sign-here many 42 e tt refl (λ s. refl) (rewrote (manner lazy) many (λ k. k ++ (starOf (manner lazy) ∷ [])) r (λ loaded k y x. star-codes loaded p k y x (manner lazy))) (many-sizes d)
 
     pub more-here : Sized c (loadOf 2 (v .weight)) (capped (orMore 1 (meaning (v .lengths)))) → getD p at 0 ≡ 43 → Rewritten a n from (atLeastCodes (manner lazy) 1) b m → Repeated p at v (signEnd p (at + 1)) c a n from b m
     unfolding chain
     more-here d e r =
-        sign-here more 43 e tt refl (λ s. refl) (rewrote (manner lazy) more (atLeastCodes (manner lazy) 1) r (λ k y x. atLeast-codes p k y x (manner lazy) 1)) (more-sizes d)
+        sign-here more 43 e tt refl (λ s. refl) (rewrote (manner lazy) more (atLeastCodes (manner lazy) 1) r (λ loaded k y x. atLeast-codes loaded p k y x (manner lazy) 1)) (more-sizes d)
 
     pub maybe-here : Sized c (loadOf 1 (v .weight)) (capped (upTo 0 1 (meaning (v .lengths)))) → getD p at 0 ≡ 63 → Rewritten a n from (betweenCodes (manner lazy) 0 1) b m
         → Repeated p at v (signEnd p (at + 1)) c a n from b m
     unfolding chain optional
     maybe-here d e r =
-        sign-here maybe 63 e tt refl (λ s. refl) (rewrote (manner lazy) maybe (betweenCodes (manner lazy) 0 1) r (λ k y x. between-codes p k y x (manner lazy) 0 1)) (maybe-sizes d)
+        sign-here maybe 63 e tt refl (λ s. refl) (rewrote (manner lazy) maybe (betweenCodes (manner lazy) 0 1) r (λ loaded k y x. between-codes loaded p k y x (manner lazy) 0 1)) (maybe-sizes d)
 
   -- A count that was found.
   module _ (h : at < length p) (brace : getD p at 0 ≡ 123) {e : ℕ} (next : Onward p (at + 1) e) (lazy : Bool) (q : lazy ≡ firstHolds (drop e p) 63) where
-    counted : (x : Repeat) → readCount (drop (at + 1) p) ≡ found x (drop e p) → ((y : Re) → Rewrote p a n from b m y (repeatBy (manner lazy) x y)) → Sizes v c x
+    counted : (x : Repeat) → readCount (drop (at + 1) p) ≡ found x (drop e p) → Rewrote p a n from b m (repeatBy (manner lazy) x) → Sizes v c x
         → Repeated p at v (signEnd p e) c a n from b m
     counted x f r l =
         let i : CountIs (123 ∷ drop (at + 1) p) x (drop e p) = subst (Sound (CountIs (123 ∷ drop (at + 1) p))) f (count-sound (drop (at + 1) p)) in
@@ -124,23 +128,23 @@ module _ {p : List ℕ} {at n from m : ℕ} {v c : Size} {a b : List ℕ} where
         → Sized c (loadOf t (v .weight)) (capped (upTo t t (meaning (v .lengths)))) → Rewritten a n from (exactlyCodes t) b m
         → Repeated p at v (signEnd p e) c a n from b m
     exactly-here d t f g k r =
-        counted (exactly d) f (rewrote (manner lazy) (exactly d) (exactlyCodes t) r (λ k y x. rw g (exactly-codes p k y x t))) (exactly-sizes d t g k)
+        counted (exactly d) f (rewrote (manner lazy) (exactly d) (exactlyCodes t) r (λ loaded k y x. rw g (exactly-codes loaded p k y x t))) (exactly-sizes d t g k)
 
     pub atLeast-here : (d : Digits) (t : ℕ) → readCount (drop (at + 1) p) ≡ found (atLeast d) (drop e p) → digitsValue d ≡ t
         → Sized c (loadOf (t + 1) (v .weight)) (capped (orMore t (meaning (v .lengths)))) → Rewritten a n from (atLeastCodes (manner lazy) t) b m
         → Repeated p at v (signEnd p e) c a n from b m
     atLeast-here d t f g k r =
-        counted (atLeast d) f (rewrote (manner lazy) (atLeast d) (atLeastCodes (manner lazy) t) r (λ k y x. rw g (atLeast-codes p k y x (manner lazy) t))) (atLeast-sizes d t g k)
+        counted (atLeast d) f (rewrote (manner lazy) (atLeast d) (atLeastCodes (manner lazy) t) r (λ loaded k y x. rw g (atLeast-codes loaded p k y x (manner lazy) t))) (atLeast-sizes d t g k)
 
     pub between-here : (d d′ : Digits) (t u : ℕ) → readCount (drop (at + 1) p) ≡ found (between d d′) (drop e p) → digitsValue d ≡ t → digitsValue d′ ≡ u
         → Sized c (loadOf u (v .weight)) (capped (upTo t u (meaning (v .lengths)))) → Rewritten a n from (betweenCodes (manner lazy) t (u - t)) b m → Repeated p at v (signEnd p e) c a n from b m
     between-here d d′ t u f g g′ k r =
-        counted (between d d′) f (rewrote (manner lazy) (between d d′) (betweenCodes (manner lazy) t (u - t)) r (λ k y x. rw (g, g′) (between-codes p k y x (manner lazy) t (u - t)))) (between-sizes d d′ t u g g′ k)
+        counted (between d d′) f (rewrote (manner lazy) (between d d′) (betweenCodes (manner lazy) t (u - t)) r (λ loaded k y x. rw (g, g′) (between-codes loaded p k y x (manner lazy) t (u - t)))) (between-sizes d d′ t u g g′ k)
 
 -- No repeat.
 module _ {p : List ℕ} {at n from : ℕ} {v : Size} {a : List ℕ} where
   none-here : at ≤ length p → NoRepeat (drop at p) → Repeated p at v at v a n from a n
-  none-here h k = record { x = once; formed = tt; text = refl; forward = omega arith; inside = h; settled = λ y. k; unsigned = never; wrote = λ y. record { codes = λ k. k; are = λ k e. e; holds = λ l k h u. h }; size = once-sizes v }
+  none-here h k = record { x = once; formed = tt; text = refl; forward = omega arith; inside = h; settled = λ y. k; unsigned = never; wrote = record { codes = λ k. k; are = λ loaded k y e. e; holds = λ l k h u. h }; size = once-sizes v }
 
   pub end-here : at ≡ length p → Repeated p at v at v a n from a n
   end-here e = none-here (omega arith) (rw (drop-all p at e) tt)
@@ -149,19 +153,19 @@ module _ {p : List ℕ} {at n from : ℕ} {v : Size} {a : List ℕ} where
   other-here h x y z w = none-here (omega arith) (rw (at-drop p at h) (no-repeat (getD p at 0) x y z w))
 
 -- Sequences. A part and the parts after it.
-joined : {p : List ℕ} {u n₂ n₃ m : ℕ} {f g₂ g₃ g : List ℕ} {n : ℕ} (q : Sequence) (k : ℕ) (z : Re) → Wrote p f n g₂ n₂ (tokens z) → Wrote p g₂ n₂ g₃ n₃ (tokensOf (parts q k)) → Weighs u (weights q) (heaviestWithin q)
-    → ((u ≡ 0 → ⊥) → Added g₃ n₃ (1 ∷ []) g m) → (u ≡ 0 → (g ≡ g₃) × (m ≡ n₃)) → Wrote p f n g m (tokensOf (z ∷ parts q k))
+joined : {p : List ℕ} {u n₂ n₃ m : ℕ} {f g₂ g₃ g : List ℕ} {n : ℕ} (q : Sequence) (k : ℕ) (z : List ℕ → Re) → Wrote p f n g₂ n₂ (λ loaded. tokens (z loaded)) → Wrote p g₂ n₂ g₃ n₃ (λ loaded. tokensOf (parts (inNamed loaded) q k)) → Weighs u (weights q) (heaviestWithin q)
+    → ((u ≡ 0 → ⊥) → Added g₃ n₃ (1 ∷ []) g m) → (u ≡ 0 → (g ≡ g₃) × (m ≡ n₃)) → Wrote p f n g m (λ loaded. tokensOf (z loaded ∷ parts (inNamed loaded) q k))
 unfolding weight heaviest shape tokensOf chain tokens
 joined nothing k z v w l go stop =
     let e = stop (load-none l (omega arith)) in
-    rw (e .0, e .1) (rw append-nil at (wrote-then v w))
-joined (part a r q) k z v w l go stop = wrote-then v (wrote-then w (wrote-added 1 (both ∷ []) refl (go (load-some l (omega (arith, repeated-pos r (weightAtom a) (atom-pos a)))))))
+    rw (e .0, e .1) (wrote-same (λ loaded. append-nil (tokens (z loaded))) (wrote-then v w))
+joined (part a r q) k z v w l go stop = wrote-then v (wrote-then w (wrote-added 1 (λ loaded. both ∷ []) (λ loaded. refl) (go (load-some l (omega (arith, repeated-pos r (weightAtom a) (atom-pos a)))))))
 
 -- A sequence as a part: an empty one is a part of its own.
-whole : {p : List ℕ} {u n n₁ m : ℕ} {f g₁ g : List ℕ} (q : Sequence) (k : ℕ) → Wrote p f n g₁ n₁ (tokensOf (parts q k)) → Weighs u (weights q) (heaviestWithin q)
-    → (u ≡ 0 → Added g₁ n₁ (0 ∷ []) g m) → ((u ≡ 0 → ⊥) → (g ≡ g₁) × (m ≡ n₁)) → Wrote p f n g m (tokens (chain (parts q k)))
+whole : {p : List ℕ} {u n n₁ m : ℕ} {f g₁ g : List ℕ} (q : Sequence) (k : ℕ) → Wrote p f n g₁ n₁ (λ loaded. tokensOf (parts (inNamed loaded) q k)) → Weighs u (weights q) (heaviestWithin q)
+    → (u ≡ 0 → Added g₁ n₁ (0 ∷ []) g m) → ((u ≡ 0 → ⊥) → (g ≡ g₁) × (m ≡ n₁)) → Wrote p f n g m (λ loaded. tokens (chain (parts (inNamed loaded) q k)))
 unfolding weight heaviest shape tokensOf chain tokens
-whole nothing k w l go stop = wrote-then w (wrote-added 0 (nil ∷ []) refl (go (load-none l (omega arith))))
+whole nothing k w l go stop = wrote-then w (wrote-added 0 (λ loaded. nil ∷ []) (λ loaded. refl) (go (load-none l (omega arith))))
 whole (part a r q) k w l go stop =
     let e = stop (load-some l (omega (arith, repeated-pos r (weightAtom a) (atom-pos a)))) in
     rw (e .0, e .1) w
@@ -199,8 +203,8 @@ module _ {p : List ℕ} {at d : ℕ} where
         inside = q .inside;
         end = q .end;
         wrote =
-            joined (q .q) (i .count + bracketsAtom (a .x)) (repeatOf (x .x) (shapeAtom (a .x) (i .count)))
-            (wrote-rewrote (a .wrote) (x .wrote (shapeAtom (a .x) (i .count)))) (subst (λ n. Wrote p g₂ n₂ g₃ n₃ (tokensOf (parts (q .q) n))) k (q .wrote)) (q .size .load) go stop;
+            joined (q .q) (i .count + bracketsAtom (a .x)) (λ loaded. repeatOf (x .x) (shapeAtom (inNamed loaded) (a .x) (i .count)))
+            (wrote-rewrote (λ loaded. shapeAtom (inNamed loaded) (a .x) (i .count)) (a .wrote) (x .wrote)) (subst (λ n. Wrote p g₂ n₂ g₃ n₃ (λ loaded. tokensOf (parts (inNamed loaded) (q .q) n))) k (q .wrote)) (q .size .load) go stop;
         size =
             row-size r (weights (part (a .x) (x .x) (q .q))) (heaviestWithin (part (a .x) (x .x) (q .q))) refl
             (x .size (weightAtom (a .x)) (heaviestAtom (a .x)) (lengthsAtom (a .x)) (atom-heaviest (a .x)) (a .size)) (q .size) (λ f g h. omega arith) (λ f. omega arith) z;
@@ -234,7 +238,7 @@ module _ {p : List ℕ} {at d : ℕ} where
   alternation-or {e} {l = l} {n₂ = n₂} {n₃ = n₃} {g₂ = g₂} {g₃ = g₃} {i = i} {j = j} w r q go stop x h y t o z =
       let after : 124 ∷ alternation (t .t) (drop l p) ≡ drop e p = ap (λ s. 124 ∷ s) (t .text) ∙ sym (byte-drop p e 124 h y) in
       let k : j .count ≡ i .count + bracketsWithin (q .q) = passed-count (q .passed) ∙ ap (λ n. i .count + n) (within-count (q .q) (drop e p)) in
-      let rest : Wrote p g₂ n₂ g₃ n₃ (tokens (shape (t .t) (i .count + bracketsWithin (q .q)))) = subst (λ n. Wrote p g₂ n₂ g₃ n₃ (tokens (shape (t .t) n))) k (t .wrote) in
+      let rest : Wrote p g₂ n₂ g₃ n₃ (λ loaded. tokens (shape (inNamed loaded) (t .t) (i .count + bracketsWithin (q .q)))) = subst (λ n. Wrote p g₂ n₂ g₃ n₃ (λ loaded. tokens (shape (inNamed loaded) (t .t) n))) k (t .wrote) in
       record {
         t = or (q .q) (t .t);
         formed = (q .formed, t .formed);
@@ -243,7 +247,7 @@ module _ {p : List ℕ} {at d : ℕ} where
         forward = omega (arith, q .forward, t .forward);
         inside = t .inside;
         end = t .end;
-        wrote = wrote-then (whole (q .q) (i .count) (q .wrote) (q .size .load) go stop) (wrote-then rest (wrote-added 2 (Tokens.or ∷ []) refl o));
+        wrote = wrote-then (whole (q .q) (i .count) (q .wrote) (q .size .load) go stop) (wrote-then rest (wrote-added 2 (λ loaded. Tokens.or ∷ []) (λ loaded. refl) o));
         passed = rw after (passed-then (q .passed) (omega arith) (t .passed));
         size =
             either-size r (weight (or (q .q) (t .t))) (heaviest (or (q .q) (t .t))) refl (one-size w x (q .size)) (t .size)
@@ -254,7 +258,7 @@ module _ {p : List ℕ} {at d : ℕ} where
 module _ {p : List ℕ} {at d : ℕ} (b : Begun p at d) (i : at < length p) {n m : ℕ} {f g : List ℕ} where
   -- A leaf, whose code is that of its place.
   module _ (u : Added f n ((firstLeaf + at) ∷ []) g m) {c : Size} (q : Sized c 1 oneByte) (j : Brackets) where
-    leaf-here : (x : Atom) (e : ℕ) → map (tokenOf p) ((firstLeaf + at) ∷ []) ≡ tokens (shapeAtom x (j .count)) → openingsAtom x (drop e p) ≡ [] → WfAtom x → depthAtom x ≡ 0 → weightAtom x ≡ 1 → heaviestAtom x ≡ 1 → lengthsAtom x ≡ oneByte
+    leaf-here : (x : Atom) (e : ℕ) → ((loaded : List ℕ) → map (tokenOf loaded p) ((firstLeaf + at) ∷ []) ≡ tokens (shapeAtom (inNamed loaded) x (j .count))) → openingsAtom x (drop e p) ≡ [] → WfAtom x → depthAtom x ≡ 0 → weightAtom x ≡ 1 → heaviestAtom x ≡ 1 → lengthsAtom x ≡ oneByte
         → atom x (drop e p) ≡ drop at p → at < e → e ≤ length p → Atomic p at d e c f n g m j j
     leaf-here x e v o w k y z s t l r =
         record {
@@ -264,7 +268,7 @@ module _ {p : List ℕ} {at d : ℕ} (b : Begun p at d) (i : at < length p) {n m
           text = t;
           forward = l;
           inside = r;
-          wrote = wrote-added (firstLeaf + at) (tokens (shapeAtom x (j .count))) v u;
+          wrote = wrote-added (firstLeaf + at) (λ loaded. tokens (shapeAtom (inNamed loaded) x (j .count))) v u;
           size = record { load = light (omega (arith, q .weighs)) (omega arith) (omega arith); lengths = q .lasts ∙ ap capped (sym s) };
           passed = rw o (passed-none j (omega arith));
         }
@@ -272,24 +276,24 @@ module _ {p : List ℕ} {at d : ℕ} (b : Begun p at d) (i : at < length p) {n m
     pub plain-here : false ≡ isSpecial (getD p at 0) → Atomic p at d (at + 1) c f n g m j j
     unfolding weight heaviest lengths
     plain-here e =
-        leaf-here (byte (plain (getD p at 0))) (at + 1) (plain-code p at (j .count) (drop (at + 1) p) (getD p at 0) (at-drop p at i) (ordinary-of (getD p at 0) e)) refl (ordinary-of (getD p at 0) e) refl refl refl refl (sym (at-drop p at i)) (omega arith) (omega arith)
+        leaf-here (byte (plain (getD p at 0))) (at + 1) (λ loaded. plain-code loaded p at (j .count) (drop (at + 1) p) (getD p at 0) (at-drop p at i) (ordinary-of (getD p at 0) e)) refl (ordinary-of (getD p at 0) e) refl refl refl refl (sym (at-drop p at i)) (omega arith) (omega arith)
 
     pub dot-here : getD p at 0 ≡ 46 → Atomic p at d (at + 1) c f n g m j j
     unfolding weight heaviest lengths
-    dot-here e = leaf-here dot (at + 1) (dot-code p at (j .count) (drop (at + 1) p) (byte-drop p at 46 i e)) refl tt refl refl refl refl (sym (byte-drop p at 46 i e)) (omega arith) (omega arith)
+    dot-here e = leaf-here dot (at + 1) (λ loaded. dot-code loaded p at (j .count) (drop (at + 1) p) (byte-drop p at 46 i e)) refl tt refl refl refl refl (sym (byte-drop p at 46 i e)) (omega arith) (omega arith)
 
     pub escaped-here : getD p at 0 ≡ 92 → at + 1 ≢ length p → true ≡ isSpecial (getD p (at + 1) 0) → Atomic p at d (at + 2) c f n g m j j
     unfolding weight heaviest lengths
     escaped-here e k s =
         let h : at + 1 < length p = omega arith in
         let t : drop at p ≡ 92 ∷ getD p (at + 1) 0 ∷ drop (at + 2) p = byte-drop p at 92 i e ∙ ap (λ l. 92 ∷ l) (next-here b i h) in
-        leaf-here (byte (escaped (getD p (at + 1) 0))) (at + 2) (escaped-code p at (j .count) (drop (at + 2) p) (getD p (at + 1) 0) t) refl (sym s) refl refl refl refl (sym t) (omega arith) (omega arith)
+        leaf-here (byte (escaped (getD p (at + 1) 0))) (at + 2) (λ loaded. escaped-code loaded p at (j .count) (drop (at + 2) p) (getD p (at + 1) 0) t) refl (sym s) refl refl refl refl (sym t) (omega arith) (omega arith)
 
     pub class-here : {e : ℕ} (x : Atom) → getD p at 0 ≡ 91 → readClass (drop (at + 1) p) ≡ found x (drop e p) → Onward p (at + 1) e → Atomic p at d e c f n g m j j
     unfolding weight heaviest lengths
     class-here {e} a h r o =
         let (c, x, l, s, w, v, t) = subst (Sound (ClassIs (91 ∷ drop (at + 1) p))) r (class-sound (drop (at + 1) p)) in
-        leaf-here (class c x l) e (class-code p at (j .count) (drop (at + 1) p) c x l (drop e p) (byte-drop p at 91 i h) (r ∙ ap (λ y. found y (drop e p)) s)) refl (w, v) refl refl refl refl (t ∙ sym (byte-drop p at 91 i h)) (omega (arith, o .forward)) (o .inside)
+        leaf-here (class c x l) e (λ loaded. class-code loaded p at (j .count) (drop (at + 1) p) c x l (drop e p) (byte-drop p at 91 i h) (r ∙ ap (λ y. found y (drop e p)) s)) refl (w, v) refl refl refl refl (t ∙ sym (byte-drop p at 91 i h)) (omega (arith, o .forward)) (o .inside)
 
   -- A group, whose bracket is a field if it is one of the first eight.
   pub group-here : {e k : ℕ} {c : Size} {h : List ℕ} {u w v : Brackets} → getD p at 0 ≡ 40 → w ≡ oneMore u at → Alternated p (at + 1) (d + 1) e c f n h k w v → e ≢ length p → AddedIf (u .count < maxFields) h k (firstField + u .count) g m
@@ -314,13 +318,13 @@ module _ {p : List ℕ} {at d : ℕ} (b : Begun p at d) (i : at < length p) {n m
       t : Alternated p (at + 1) (d + 1) e c f n h k (oneMore u at) v
       t = subst (λ g. Alternated p (at + 1) (d + 1) e c f n h k g v) is t′
 
-      marked : Dec (u .count < maxFields) → Wrote p f n g m (tokens (bracketed (u .count) (shape (t .t) (suc (u .count)))))
+      marked : Dec (u .count < maxFields) → Wrote p f n g m (λ loaded. tokens (bracketed (u .count) (shape (inNamed loaded) (t .t) (suc (u .count)))))
       marked (yes l) =
           record {
             codes = t .wrote .codes ++ ((firstField + u .count) ∷ []);
-            are = field-codes p (t .wrote .codes) (shape (t .t) (suc (u .count))) (t .wrote .are) (u .count) l;
+            are = λ loaded. field-codes loaded p (t .wrote .codes) (shape (inNamed loaded) (t .t) (suc (u .count))) (t .wrote .are loaded) (u .count) l;
             holds = λ a b. rw (← append-assoc a (t .wrote .codes) ((firstField + u .count) ∷ [])) (z .added l .holds (a ++ t .wrote .codes) (t .wrote .holds a b));
           }
       marked (no l) =
           let e = z .kept l in
-          rw (e .0, e .1) (record { codes = t .wrote .codes; are = unmarked-codes p (t .wrote .codes) (shape (t .t) (suc (u .count))) (t .wrote .are) (u .count) (omega arith); holds = t .wrote .holds })
+          rw (e .0, e .1) (record { codes = t .wrote .codes; are = λ loaded. unmarked-codes loaded p (t .wrote .codes) (shape (inNamed loaded) (t .t) (suc (u .count))) (t .wrote .are loaded) (u .count) (omega arith); holds = t .wrote .holds })

@@ -8,7 +8,7 @@ use lib.Dec.{ltb}
 use Rattle.theory.specs.Pattern.{Re}
 use Rattle.grammar.specs.Brackets.{brackets, maxFields, ninth}
 use Rattle.grammar.specs.WriteOut.{writeOut}
-use Rattle.grammar.specs.Refusals.{Right}
+use Rattle.grammar.specs.Loaded.{Answers}
 use Rattle.grammar.specs.Refusals as Due
 use Rattle.arrays.specs.declared.Pattern.{Pattern}
 use Rattle.arrays.specs.Decoded.{decode, blank}
@@ -30,10 +30,10 @@ abbrev pub meaning : Answer → Pattern → Written
 meaning Accepted x = accepted (decode x)
 meaning (Refused n q) x = refused n q
 
--- What is due by the grammar.
-abbrev pub due : Due.Answer → Written
-due (Due.accepted t) = accepted (writeOut t)
-due (Due.refused n q) = refused n q
+-- What is due by the grammar, and by the table of named sets that is loaded.
+abbrev pub due : List ℕ → Due.Answer → Written
+due loaded (Due.accepted t) = accepted (writeOut loaded t)
+due loaded (Due.refused n q) = refused n q
 
 -- The arrays: an accepted pattern's have a place for each part and its leaves counted, a refused one's are the empty pattern's.
 abbrev pub Beside : Answer → Pattern → Type 0
@@ -54,11 +54,18 @@ abbrev pub lengthsDue : Due.Answer → Extent
 lengthsDue (Due.accepted t) = lengths t
 lengthsDue (Due.refused n q) = noByte
 
--- The reader's answer is the one that is right, and the arrays are the written-out pattern's, leaf sets included.
-pub record ReadRight (p : List ℕ) (r : Reading) : Type 0 where
+-- What stands beside a refusal says nothing.
+pub record Unread (a : Answer) (r : Reading) : Type 0 where
+  pub answer : r .answer ≡ a
+  pub pattern : r .pattern ≡ blank
+  pub brackets : r .brackets ≡ noBrackets
+  pub lengths : Lengths.meaning (r .lengths) ≡ noByte
+
+-- The reader's answer is the one that is right, with the table that is loaded, and the arrays are the written-out pattern's, leaf sets included.
+pub record ReadRight (loaded p : List ℕ) (r : Reading) : Type 0 where
   pub answer : Due.Answer
-  pub right : Right p answer
-  pub means : meaning (r .answer) (r .pattern) ≡ due answer
+  pub right : Answers loaded p answer
+  pub means : meaning (r .answer) (r .pattern) ≡ due loaded answer
   pub beside : Beside (r .answer) (r .pattern)
   pub counted : r .brackets ≡ bracketsDue answer
   pub measured : Lengths.meaning (r .lengths) ≡ lengthsDue answer

@@ -11,6 +11,7 @@ use Rattle.theory.specs.Pattern.{Re}
 use Rattle.grammar.specs.Grammar.{Repeat, unmarked, Alternation, Sequence, Atom, Kind, ordinary, backslash, bar, opener, closer, bracket, brace, period, stray, sign, kind, special, repeatText, alternation, sequence, atom, WfAlternation, WfSequence, WfAtom, WfRepeat}
 use Rattle.grammar.specs.Limits.{maxBytes, maxDepth, maxWeight, depth, depthSequence, depthAtom, times, repeated, weight, weights, weightAtom, heaviest, heaviestWithin, heaviestAtom}
 use Rattle.grammar.specs.Brackets.{openings, openingsWithin, openingsAtom, maxFields}
+use Rattle.grammar.specs.Sets.{inNamed}
 use Rattle.grammar.specs.WriteOut.{chain, shape, parts, shapeAtom, repeatOf}
 use Rattle.grammar.specs.Before.{Before, text, opens, isOnce, ready, softens, WfBefore}
 use Rattle.grammar.specs.Refusals.{Fault}
@@ -123,10 +124,10 @@ unfoldable pub tokensOf : List Re → List Token
 tokensOf [] = []
 tokensOf (x ∷ l) = tokens (chain (x ∷ l))
 
--- The array a with n used became b with m used: the codes of those tokens are held after what was held.
-pub record Wrote (p : List ℕ) (a : List ℕ) (n : ℕ) (b : List ℕ) (m : ℕ) (ts : List Token) : Type 0 where
+-- The array a with n used became b with m used: the codes of those tokens, which are theirs by whatever table of named sets is loaded, are held after what was held.
+pub record Wrote (p : List ℕ) (a : List ℕ) (n : ℕ) (b : List ℕ) (m : ℕ) (ts : List ℕ → List Token) : Type 0 where
   pub codes : List ℕ
-  pub are : map (tokenOf p) codes ≡ ts
+  pub are : (loaded : List ℕ) → map (tokenOf loaded p) codes ≡ ts loaded
   pub holds : (l : List ℕ) → HoldsCodes a n l → HoldsCodes b m (l ++ codes)
 
 -- A code was added if the test holds, and else nothing changed.
@@ -134,10 +135,10 @@ pub record AddedIf (P : Type 0) (a : List ℕ) (n code : ℕ) (b : List ℕ) (m 
   pub added : P → Added a n (code ∷ []) b m
   pub kept : (P → ⊥) → (b ≡ a) × (m ≡ n)
 
--- The part y, whose codes begin at the place `from`, became the part z.
-pub record Rewrote (p : List ℕ) (a : List ℕ) (n from : ℕ) (b : List ℕ) (m : ℕ) (y z : Re) : Type 0 where
+-- A part y, whose codes begin at the place `from`, became the part f y.
+pub record Rewrote (p : List ℕ) (a : List ℕ) (n from : ℕ) (b : List ℕ) (m : ℕ) (f : Re → Re) : Type 0 where
   pub codes : List ℕ → List ℕ
-  pub are : (k : List ℕ) → map (tokenOf p) k ≡ tokens y → map (tokenOf p) (codes k) ≡ tokens z
+  pub are : (loaded k : List ℕ) (y : Re) → map (tokenOf loaded p) k ≡ tokens y → map (tokenOf loaded p) (codes k) ≡ tokens (f y)
   pub holds : (l k : List ℕ) → HoldsCodes a n (l ++ k) → from ≡ min maxParts (length l) → HoldsCodes b m (l ++ codes k)
 
 -- What is found, F, ends at e and has the size c; or the pattern has the fault.
@@ -154,7 +155,7 @@ pub record Alternated (p : List ℕ) (at d e : ℕ) (c : Size) (a : List ℕ) (n
   pub forward : at ≤ e
   pub inside : e ≤ length p
   pub end : e < length p → getD p e 0 ≡ 41
-  pub wrote : Wrote p a n b m (tokens (shape t (g .count)))
+  pub wrote : Wrote p a n b m (λ loaded. tokens (shape (inNamed loaded) t (g .count)))
   pub size : SizeOf c (weight t) (heaviest t) (lengths t)
   pub passed : Passed p at e (openings t (drop e p)) g h
 
@@ -170,7 +171,7 @@ pub record Sequenced (p : List ℕ) (at d e : ℕ) (c : Size) (a : List ℕ) (n 
   pub forward : at ≤ e
   pub inside : e ≤ length p
   pub end : e < length p → getD p e 0 ≢ 124 → getD p e 0 ≡ 41
-  pub wrote : Wrote p a n b m (tokensOf (parts q (g .count)))
+  pub wrote : Wrote p a n b m (λ loaded. tokensOf (parts (inNamed loaded) q (g .count)))
   pub size : SizeOf c (weights q) (heaviestWithin q) (lengthsWithin q)
   pub passed : Passed p at e (openingsWithin q (drop e p)) g h
 
@@ -185,7 +186,7 @@ pub record Atomic (p : List ℕ) (at d e : ℕ) (c : Size) (a : List ℕ) (n : �
   pub text : atom x (drop e p) ≡ drop at p
   pub forward : at < e
   pub inside : e ≤ length p
-  pub wrote : Wrote p a n b m (tokens (shapeAtom x (g .count)))
+  pub wrote : Wrote p a n b m (λ loaded. tokens (shapeAtom (inNamed loaded) x (g .count)))
   pub size : SizeOf c (weightAtom x) (heaviestAtom x) (lengthsAtom x)
   pub passed : Passed p at e (openingsAtom x (drop e p)) g h
 
@@ -205,7 +206,7 @@ pub record Repeated (p : List ℕ) (at : ℕ) (v : Size) (e : ℕ) (c : Size) (a
   pub inside : e ≤ length p
   pub settled : isOnce x ≡ true → NoRepeat (drop e p)
   pub unsigned : unmarked x ≡ true → NoSign (drop e p)
-  pub wrote : (y : Re) → Rewrote p a n from b m y (repeatOf x y)
+  pub wrote : Rewrote p a n from b m (repeatOf x)
   pub size : (w h : ℕ) (y : Extent) → w ≤ h → SizeOf v w h y → SizeOf c (repeated x w) (max h (repeated x w)) (underRepeat x y)
 
 abbrev pub RepeatRead : List ℕ → ℕ → Size → List ℕ → ℕ → ℕ → List ℕ → ℕ → Part → Type 0

@@ -1,5 +1,5 @@
 // Reads a pattern: alternation, sequence and atom call each other, and the bytes left fall. The codes of the written-out pattern go to an array that is lent.
-// Limits and refusals: paper 01, "The pattern's grammar" and "Refusals".
+// Limits and refusals: paper 01, "The pattern's grammar" and "Refusals"; paper 02, request 9: a table of named sets that fails its checks.
 ghost use mathlib.Core.Path.{_≡_};
 ghost use mathlib.Core.Logic.{_≢_};
 ghost use Prim.Native.Nat.{ℕ, _+_, _≤_, _<_, min, max};
@@ -7,9 +7,10 @@ ghost use mathlib.Core.List.{List, [], _∷_};
 ghost use lib.ListN.{length, getD};
 ghost use Rattle.grammar.specs.Limits.{maxBytes};
 ghost use Rattle.grammar.specs.Brackets.{maxFields};
+ghost use Rattle.grammar.specs.Loaded.{Passes};
 ghost use Rattle.grammar.specs.Code.Codes.{emptyKind, sequenceKind, firstField, firstLeaf};
 ghost use Rattle.reader.specs.Steps.{isSpecial, aboveLimit, loadOf, Sized, signEnd, oneMore, Begun, Ready, AtomAt, AlternationRead, SequenceRead, AtomRead, LeafRead, RepeatRead, AddedIf, answerBy, lengthsBy};
-ghost use Rattle.reader.specs.Reading.{noBrackets, ReadRight};
+ghost use Rattle.reader.specs.Reading.{noBrackets, Unread, ReadRight};
 ghost use Rattle.tokens.specs.Held.{Added};
 ghost use Rattle.lengths.specs.Lengths.{noByte, oneByte, inRow, oneOf, upTo, orMore};
 ghost use Rattle.lengths.specs.Code.{meaning, capped};
@@ -18,8 +19,9 @@ use arrays::Pattern;
 use lengths::Lengths;
 use scanner::Class;
 use scanner::Count;
+use sets::Checked;
 
-// The reader's answer: accepted, or refused with paper 01's number and place.
+// The reader's answer: accepted, or refused with the papers' number and place.
 pub enum Answer {
     Accepted,
     Refused { number: u8, place: usize },
@@ -519,42 +521,58 @@ fn lengths_of(part: Part) -> Lengths
     w.lengths
 }
 
-// Reads a pattern of any bytes and any length.
-pub fn read(s: &[u8]) -> Reading
-    ensures right { λ r. ⌜ ReadRight (now (s .entry)) r ⌝ }
+// A refusal, with nothing beside it.
+fn unread(answer: Answer) -> Reading
+    ensures { λ r. ⌜ Unread answer r ⌝ }
+{
+    let nothing = Pattern::empty();
+    Reading {
+        answer: answer,
+        pattern: nothing,
+        brackets: no_brackets(),
+        lengths: lengths::nothing(),
+    }
+}
+
+// Reads a pattern of any bytes and any length, with a table of named sets that passes its checks.
+fn read_text(loaded: &[u8], s: &[u8]) -> Reading
+    requires { ⌜ Passes (now loaded) ⌝ }
+    ensures { λ r. ⌜ ReadRight (now (loaded .entry)) (now (s .entry)) r ⌝ }
 {
     if Pattern::MAX_BYTES < s.len() {
-        let nothing = Pattern::empty();
-        return Reading {
-            answer: Answer::Refused {
-                number: 1,
-                place: Pattern::MAX_BYTES,
-            },
-            pattern: nothing,
-            brackets: no_brackets(),
-            lengths: lengths::nothing(),
-        };
+        return unread(Answer::Refused {
+            number: 1,
+            place: Pattern::MAX_BYTES,
+        });
     }
     let mut codes = [0u16; Pattern::MAX_PARTS];
     let whole = alternation(s, 0, 0, &mut codes, 0, no_brackets());
     let part = whole.part;
     let answer = judged(s, part);
     let Answer::Accepted = answer else {
-        let nothing = Pattern::empty();
-        return Reading {
-            answer: answer,
-            pattern: nothing,
-            brackets: no_brackets(),
-            lengths: lengths::nothing(),
-        };
+        return unread(answer);
     };
     let n = whole.len;
     let brackets = whole.brackets;
-    let pattern = arrays::finish(s, &codes, n);
+    let pattern = arrays::finish(loaded, s, &codes, n);
     Reading {
         answer: answer,
         pattern: pattern,
         brackets: brackets,
         lengths: lengths_of(part),
     }
+}
+
+// Reads a pattern of any bytes and any length. The table of named sets, of any length and content, is checked first: one that fails is 14.
+pub fn read(loaded: &[u8], s: &[u8]) -> Reading
+    ensures right { λ r. ⌜ ReadRight (now (loaded .entry)) (now (s .entry)) r ⌝ }
+{
+    let check = sets::check(loaded);
+    let Checked::Faulty { place } = check else {
+        return read_text(loaded, s);
+    };
+    unread(Answer::Refused {
+        number: 14,
+        place: place,
+    })
 }

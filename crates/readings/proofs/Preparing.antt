@@ -13,11 +13,11 @@ use Rattle.matchers.specs.Tables.{Tables, Ready}
 use Rattle.readings.specs.Tables.{FilledBy, Prepared, ready, refused}
 
 -- An accepted pattern's tables,
-pub prepared-ready : {p : List ℕ} {r : Reading} {old new : Tables} → ReadRight p r → r .answer ≡ Accepted → FilledBy (r .pattern) new → Prepared p old (r .answer) new
+pub prepared-ready : {loaded p : List ℕ} {r : Reading} {old new : Tables} → ReadRight loaded p r → r .answer ≡ Accepted → FilledBy (r .pattern) new → Prepared loaded p old (r .answer) new
 prepared-ready {new = new} h e filled =
     let (a, reads, is) = accepted-reads h e in
     ready e reads (subst (λ x. Ready x new) is (filled .ready (accepted-leaves h e .0) (accepted-leaves h e .1) (accepted-holds h e)))
 
 -- or the refusal.
-pub prepared-refused : {p : List ℕ} {n k : ℕ} {r : Reading} {old : Tables} → ReadRight p r → r .answer ≡ Refused n k → Prepared p old (r .answer) old
+pub prepared-refused : {loaded p : List ℕ} {n k : ℕ} {r : Reading} {old : Tables} → ReadRight loaded p r → r .answer ≡ Refused n k → Prepared loaded p old (r .answer) old
 prepared-refused h e = refused e (refused-fault h e) refl

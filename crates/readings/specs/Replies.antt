@@ -6,7 +6,7 @@ use mathlib.Core.List.{List}
 use Rattle.theory.specs.Pattern.{count, Numbered}
 use Rattle.theory.specs.Spans.{Span, greedy, posix}
 use Rattle.grammar.specs.WriteOut.{writeOut}
-use Rattle.grammar.specs.Refusals.{Right}
+use Rattle.grammar.specs.Loaded.{Answers}
 use Rattle.grammar.specs.Refusals as Due
 use Rattle.arrays.specs.declared.Pattern.{Pattern}
 use Rattle.arrays.specs.Decoded.{decode}
@@ -28,10 +28,10 @@ abbrev pub meaning : Answer → Spans → Told
 meaning Accepted s = cut (greedyOf s) (posixOf s)
 meaning (Refused n k) s = refused n k
 
--- What is due for the line w by the grammar's answer.
-abbrev pub due : Due.Answer → List ℕ → Told
-due (Due.accepted t) w = cut (greedy (writeOut t) w) (posix (writeOut t) w)
-due (Due.refused n k) w = refused n k
+-- What is due for the line w by the grammar's answer, with the named sets that are loaded.
+abbrev pub due : List ℕ → Due.Answer → List ℕ → Told
+due loaded (Due.accepted t) w = cut (greedy (writeOut loaded t) w) (posix (writeOut loaded t) w)
+due loaded (Due.refused n k) w = refused n k
 
 -- A refused pattern's spans are none.
 abbrev pub Beside : Answer → Spans → Type 0
@@ -39,10 +39,10 @@ Beside Accepted s = Unit {0}
 Beside (Refused n k) s = s ≡ Nowhere
 
 -- The reply is the one of the right answer.
-pub record Replied (p w : List ℕ) (r : Reply) : Type 0 where
+pub record Replied (loaded p w : List ℕ) (r : Reply) : Type 0 where
   pub answer : Due.Answer
-  pub right : Right p answer
-  pub means : meaning (r .answer) (r .spans) ≡ due answer w
+  pub right : Answers loaded p answer
+  pub means : meaning (r .answer) (r .spans) ≡ due loaded answer w
   pub beside : Beside (r .answer) (r .spans)
 
 -- Both spans, for arrays that are those of a pattern.

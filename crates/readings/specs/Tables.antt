@@ -5,8 +5,7 @@ use Prim.Native.Nat.{ℕ, _≤_}
 use mathlib.Core.List.{List}
 use Rattle.theory.specs.Pattern.{count, Numbered}
 use Rattle.grammar.specs.Grammar.{Alternation}
-use Rattle.grammar.specs.Limits.{Reads}
-use Rattle.grammar.specs.Refusals.{Fault}
+use Rattle.grammar.specs.Loaded.{Accepts, Refuses}
 use Rattle.grammar.specs.WriteOut.{writeOut}
 use Rattle.arrays.specs.declared.Pattern.{Pattern}
 use Rattle.arrays.specs.Decoded.{decode}
@@ -20,6 +19,6 @@ pub record FilledBy (x : Pattern) (t : Tables) : Type 0 where
   pub ready : Numbered 0 (decode x) → count (decode x) ≤ 64 → HoldsPattern x (decode x) → Ready (decode x) t
 
 -- The pattern is accepted, and the tables are its own; or it is refused, and they are kept.
-pub data Prepared (p : List ℕ) (old : Tables) (x : Answer) (new : Tables) : Type 0 where
-  ready : {a : Alternation} → x ≡ Accepted → Reads p a → Ready (writeOut a) new → Prepared p old x new
-  refused : {n k : ℕ} → x ≡ Refused n k → Fault p n k → new ≡ old → Prepared p old x new
+pub data Prepared (loaded p : List ℕ) (old : Tables) (x : Answer) (new : Tables) : Type 0 where
+  ready : {a : Alternation} → x ≡ Accepted → Accepts loaded p a → Ready (writeOut loaded a) new → Prepared loaded p old x new
+  refused : {n k : ℕ} → x ≡ Refused n k → Refuses loaded p n k → new ≡ old → Prepared loaded p old x new

@@ -29,10 +29,10 @@ fn spans_by(pattern: Pattern, line: &[u8]) -> Spans
 }
 
 // Reads a pattern, and cuts a line by it both ways. A refused pattern goes no further than the reader.
-pub fn cut_line(pattern: &[u8], line: &[u8]) -> Reply
-    ensures replied { λ r. ⌜ Replied (now (pattern .entry)) (now (line .entry)) r ⌝ }
+pub fn cut_line(loaded: &[u8], pattern: &[u8], line: &[u8]) -> Reply
+    ensures replied { λ r. ⌜ Replied (now (loaded .entry)) (now (pattern .entry)) (now (line .entry)) r ⌝ }
 {
-    let reading = reader::read(pattern);
+    let reading = reader::read(loaded, pattern);
     let answer = reading.answer;
     let Answer::Accepted = answer else {
         return Reply {
@@ -80,6 +80,7 @@ pub fn fill(
 
 // Reads a pattern and fills its tables, which then serve any number of lines. A refused pattern leaves them as they are.
 pub fn prepare(
+    loaded: &[u8],
     pattern: &[u8],
     masks: &mut [u64; 256],
     rows: &mut [u8; 4225],
@@ -89,11 +90,11 @@ pub fn prepare(
     next: &mut [u64; 257],
     hows: &mut [u8; 10],
 ) -> Answer
-    ensures prepared { λ r. ⌜ Prepared (now (pattern .entry))
+    ensures prepared { λ r. ⌜ Prepared (now (loaded .entry)) (now (pattern .entry))
         (tables (now (masks .entry)) (now (rows .entry)) (now (lens .entry)) (now (sets .entry)) (now (ends .entry)) (now (next .entry)) (now (hows .entry))) r
         (tables (now (masks .exit)) (now (rows .exit)) (now (lens .exit)) (now (sets .exit)) (now (ends .exit)) (now (next .exit)) (now (hows .exit))) ⌝ }
 {
-    let reading = reader::read(pattern);
+    let reading = reader::read(loaded, pattern);
     let answer = reading.answer;
     let Answer::Accepted = answer else {
         return answer;

@@ -1,7 +1,7 @@
 -- The items of a class, one after the other, and the class.
 -- Assumes nothing.
 use mathlib.Core.Path.{_≡_, refl, sym, ap, _∙_}
-use Prim.Native.Nat.{ℕ, zero, suc, _+_, _/_, _%_, _≤_, _<_}
+use Prim.Native.Nat.{ℕ, zero, suc, _+_, _≤_, _<_}
 use mathlib.Core.Bool.{Bool, true, false, cond, not, _||_, or-false, or-assoc}
 use mathlib.Core.List.{List, [], _∷_}
 use native.Mathlib.Omega.{arith}
@@ -9,7 +9,7 @@ use lib.ListN.{length, getD, drop, drop-of-length-le, length-drop}
 use lib.Dec.{eqb}
 use Rattle.grammar.specs.Grammar
 use Rattle.grammar.specs.Grammar.{Name, alpha, digit, alnum, upper, lower, xdigit, space, punct, single, range, named, class, Inside, usual, backslash, closing, opening, caret, dash, inside}
-use Rattle.grammar.specs.Sets.{bitOf, setTable, spans, inItem, inItems}
+use Rattle.grammar.specs.Sets.{bitOf, isOn, inNamed, spans, inItem, inItems}
 use Rattle.grammar.specs.Code.Reader.{Parsed, found, missing, andThen, readItem, isClosing, readItems, readListed, isCaret, readClass}
 use Rattle.grammar.specs.Code.Codes.{firstHolds, foundHolds}
 use Rattle.grammar.proofs.Texts.{InsideOk, inside-ok, len-item}
@@ -34,14 +34,14 @@ bit-positive space = omega arith
 bit-positive punct = omega arith
 
 -- An item that was read, after others.
-module _ {p : List ℕ} {at : ℕ} (b : ℕ) (held : Bool) where
-  pub take-single : {c e : ℕ} → ItemFound p at (Single c e) → ItemTaken p at b held (Upto e (held || eqb b c))
+module _ (loaded : List ℕ) {p : List ℕ} {at : ℕ} (b : ℕ) (held : Bool) where
+  pub take-single : {c e : ℕ} → ItemFound p at (Single c e) → ItemTaken loaded p at b held (Upto e (held || eqb b c))
   take-single (x, f, v, o) = (single x, f, rw v refl, o)
 
-  pub take-range : {low high e : ℕ} → ItemFound p at (Range low high e) → ItemTaken p at b held (Upto e (held || spans low high b))
+  pub take-range : {low high e : ℕ} → ItemFound p at (Range low high e) → ItemTaken loaded p at b held (Upto e (held || spans low high b))
   take-range (x, y, f, v, w, o) = (range x y, f, rw (v, w) refl, o)
 
-  pub take-named : {bit e : ℕ} → ItemFound p at (Named bit e) → ItemTaken p at b held (Upto e (held || eqb (getD setTable b 0 / bit % 2) 1))
+  pub take-named : {bit e : ℕ} → ItemFound p at (Named bit e) → ItemTaken loaded p at b held (Upto e (held || isOn (getD loaded b 0) bit))
   take-named (n, f, v, o) = (named n, f, rw v refl, o)
 
 -- What is read is shorter, so any number from the bytes left on will do.
@@ -67,15 +67,15 @@ items-fuel (suc f) (suc g) (b ∷ s) h k = ap (cond (isClosing (inside b)) (foun
     go missing short ih = refl
 
 -- The items up to the `]`.
-pub items-over : (p : List ℕ) (at b : ℕ) (held : Bool) → length p ≤ at → ItemsTaken p at b held Faulty
+pub items-over : (loaded p : List ℕ) (at b : ℕ) (held : Bool) → length p ≤ at → ItemsTaken loaded p at b held Faulty
 unfolding readItems
-items-over p at b held h = rw (drop-of-length-le p h) refl
+items-over loaded p at b held h = rw (drop-of-length-le p h) refl
 
-pub items-closed : {p : List ℕ} {at : ℕ} (b : ℕ) (held : Bool) → Here p at 93 → ItemsTaken p at b held (Upto (at + 1) held)
+pub items-closed : (loaded : List ℕ) {p : List ℕ} {at : ℕ} (b : ℕ) (held : Bool) → Here p at 93 → ItemsTaken loaded p at b held (Upto (at + 1) held)
 unfolding readItems inside
-items-closed b held h = ([], rw (h .rest) refl, sym (or-false held), onward-next h)
+items-closed loaded b held h = ([], rw (h .rest) refl, sym (or-false held), onward-next h)
 
-module _ {p : List ℕ} {at a : ℕ} (b : ℕ) (held : Bool) (h : Here p at a) (n : a ≡ 93 → ⊥) where
+module _ (loaded : List ℕ) {p : List ℕ} {at a : ℕ} (b : ℕ) (held : Bool) (h : Here p at a) (n : a ≡ 93 → ⊥) where
   going : isClosing (inside a) ≡ false
   going = go (inside a) (inside-ok a)
     where
@@ -91,10 +91,10 @@ module _ {p : List ℕ} {at a : ℕ} (b : ℕ) (held : Bool) (h : Here p at a) (
   unfolding readItems
   next = rw (h .rest, going) refl
 
-  pub items-fault : readItem (drop at p) ≡ missing → ItemsTaken p at b held Faulty
+  pub items-fault : readItem (drop at p) ≡ missing → ItemsTaken loaded p at b held Faulty
   items-fault e = next ∙ rw e refl
 
-  pub items-turn : {mid : ℕ} {holds : Bool} → ItemTaken p at b held (Upto mid holds) → (r : Listed) → ItemsTaken p mid b holds r → ItemsTaken p at b held r
+  pub items-turn : {mid : ℕ} {holds : Bool} → ItemTaken loaded p at b held (Upto mid holds) → (r : Listed) → ItemsTaken loaded p mid b holds r → ItemsTaken loaded p at b held r
   items-turn {mid} {holds} (x, f, q, o) r t = go r t
     where
       rest : readItems (length (drop at p)) (drop at p) ≡ andThen (readItems (length (drop mid p)) (drop mid p)) (λ l r′. found (x ∷ l) r′)
@@ -102,17 +102,17 @@ module _ {p : List ℕ} {at a : ℕ} (b : ℕ) (held : Bool) (h : Here p at a) (
           let s : length (drop mid p) ≤ length (drop (at + 1) p) = rw (length-drop mid p, length-drop (at + 1) p) (omega arith) in
           next ∙ rw (f, items-fuel (length (drop (at + 1) p)) (length (drop mid p)) (drop mid p) s (omega arith)) refl
 
-      go : (r : Listed) → ItemsTaken p mid b holds r → ItemsTaken p at b held r
-      go (Upto e w) (l, g, u, k) = (x ∷ l, rest ∙ rw g refl, u ∙ rw q (or-assoc held (inItem x b) (inItems l b)), onward-from (omega arith) k)
+      go : (r : Listed) → ItemsTaken loaded p mid b holds r → ItemsTaken loaded p at b held r
+      go (Upto e w) (l, g, u, k) = (x ∷ l, rest ∙ rw g refl, u ∙ rw q (or-assoc held (inItem (inNamed loaded) x b) (inItems (inNamed loaded) l b)), onward-from (omega arith) k)
       go Faulty g = rest ∙ rw g refl
 
 -- One or more items.
-pub all-fault : (p : List ℕ) (at b : ℕ) → readItem (drop at p) ≡ missing → AllTaken p at b Faulty
-all-fault p at b e = λ c. rw e refl
+pub all-fault : (loaded p : List ℕ) (at b : ℕ) → readItem (drop at p) ≡ missing → AllTaken loaded p at b Faulty
+all-fault loaded p at b e = λ c. rw e refl
 
-pub all-taken : {p : List ℕ} {at mid : ℕ} {holds : Bool} (b : ℕ) → ItemTaken p at b false (Upto mid holds) → (r : Listed) → ItemsTaken p mid b holds r → AllTaken p at b r
-all-taken b (x, f, q, o) (Upto e w) (l, g, u, k) = (x, l, λ c. rw (f, g) refl, u ∙ rw q refl, onward-from (omega arith) k)
-all-taken b (x, f, q, o) Faulty g = λ c. rw (f, g) refl
+pub all-taken : (loaded : List ℕ) {p : List ℕ} {at mid : ℕ} {holds : Bool} (b : ℕ) → ItemTaken loaded p at b false (Upto mid holds) → (r : Listed) → ItemsTaken loaded p mid b holds r → AllTaken loaded p at b r
+all-taken loaded b (x, f, q, o) (Upto e w) (l, g, u, k) = (x, l, λ c. rw (f, g) refl, u ∙ rw q refl, onward-from (omega arith) k)
+all-taken loaded b (x, f, q, o) Faulty g = λ c. rw (f, g) refl
 
 -- A class.
 bare : (s : List ℕ) → firstHolds s 94 ≡ false → readClass s ≡ readListed false s
@@ -127,24 +127,24 @@ bare (c ∷ s) e = go (inside c) (inside-ok c)
     go caret o = absurd (first-other 94 c e o)
     go dash o = refl
 
-pub class-bare : (p : List ℕ) (at b : ℕ) → firstHolds (drop at p) 94 ≡ false → (r : Listed) → AllTaken p at b r → ClassHeld p at b r
-class-bare p at b e (Upto mid w) (x, l, f, u, k) = (false, x, l, bare (drop at p) e ∙ f false, u, k)
-class-bare p at b e Faulty f = bare (drop at p) e ∙ f false
+pub class-bare : (loaded p : List ℕ) (at b : ℕ) → firstHolds (drop at p) 94 ≡ false → (r : Listed) → AllTaken loaded p at b r → ClassHeld loaded p at b r
+class-bare loaded p at b e (Upto mid w) (x, l, f, u, k) = (false, x, l, bare (drop at p) e ∙ f false, u, k)
+class-bare loaded p at b e Faulty f = bare (drop at p) e ∙ f false
 
-module _ {p : List ℕ} {at : ℕ} (b : ℕ) (h : Here p at 94) where
+module _ (loaded : List ℕ) {p : List ℕ} {at : ℕ} (b : ℕ) (h : Here p at 94) where
   negated : readClass (drop at p) ≡ readListed true (drop (at + 1) p)
   unfolding inside
   negated = rw (h .rest) refl
 
-  pub class-negated : {mid : ℕ} {w : Bool} → AllTaken p (at + 1) b (Upto mid w) → ClassHeld p at b (Upto mid (not w))
+  pub class-negated : {mid : ℕ} {w : Bool} → AllTaken loaded p (at + 1) b (Upto mid w) → ClassHeld loaded p at b (Upto mid (not w))
   class-negated (x, l, f, u, k) = (true, x, l, negated ∙ f true, ap not u, onward-from (omega arith) k)
 
-  pub class-fault : AllTaken p (at + 1) b Faulty → ClassHeld p at b Faulty
+  pub class-fault : AllTaken loaded p (at + 1) b Faulty → ClassHeld loaded p at b Faulty
   class-fault f = negated ∙ f true
 
-module _ {p : List ℕ} {at mid : ℕ} {w : Bool} (b : ℕ) where
-  pub class-found : ClassHeld p at b (Upto mid w) → ClassFound p at (Ends mid)
+module _ (loaded : List ℕ) {p : List ℕ} {at mid : ℕ} {w : Bool} (b : ℕ) where
+  pub class-found : ClassHeld loaded p at b (Upto mid w) → ClassFound p at (Ends mid)
   class-found (c, x, l, f, u, k) = (class c x l, f, k)
 
-  pub class-holds : ClassHeld p at b (Upto mid w) → w ≡ foundHolds (readClass (drop at p)) b
+  pub class-holds : ClassHeld loaded p at b (Upto mid w) → w ≡ foundHolds loaded (readClass (drop at p)) b
   class-holds (c, x, l, f, u, k) = u ∙ rw f refl

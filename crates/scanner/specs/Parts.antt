@@ -7,7 +7,7 @@ use mathlib.Core.List.{List, [], _∷_}
 use lib.ListN.{length, drop}
 use Rattle.grammar.specs.Grammar
 use Rattle.grammar.specs.Grammar.{Byte, value, Digits, digitsValue, atLeast, class}
-use Rattle.grammar.specs.Sets.{names, inItem, inItems, inClass}
+use Rattle.grammar.specs.Sets.{names, inNamed, inItem, inItems, inClass}
 use Rattle.grammar.specs.Code.Reader.{Parsed, found, missing, readNamed, readRange, readItem, readItems, readListed, readClass, readDigits, readEnd, readSecond, readCount}
 use Rattle.grammar.specs.Code.Codes.{firstHolds}
 use Rattle.scanner.specs.Scanned.{Onward, ItemFound, CountFound}
@@ -43,28 +43,28 @@ RangeFound p at low r = (x : Byte) (from : ℕ) → value x ≡ low → Onward p
 abbrev pub NamedFound : List ℕ → ℕ → Item → Type 0
 NamedFound p at r = (from : ℕ) → from < at → readItem (drop from p) ≡ readNamed names (drop at p) → ItemFound p from r
 
--- One item more, after items of which one holds b if held.
-abbrev pub ItemTaken : List ℕ → ℕ → ℕ → Bool → Listed → Type 0
-ItemTaken p at b held (Upto e h) = (x : Grammar.Item) × (readItem (drop at p) ≡ found x (drop e p)) × (h ≡ (held || inItem x b)) × Onward p at e
-ItemTaken p at b held Faulty = readItem (drop at p) ≡ missing
+-- By the table that is loaded: one item more, after items of which one holds b if held.
+abbrev pub ItemTaken : List ℕ → List ℕ → ℕ → ℕ → Bool → Listed → Type 0
+ItemTaken loaded p at b held (Upto e h) = (x : Grammar.Item) × (readItem (drop at p) ≡ found x (drop e p)) × (h ≡ (held || inItem (inNamed loaded) x b)) × Onward p at e
+ItemTaken loaded p at b held Faulty = readItem (drop at p) ≡ missing
 
 -- The items up to the `]`.
-abbrev pub ItemsTaken : List ℕ → ℕ → ℕ → Bool → Listed → Type 0
-ItemsTaken p at b held (Upto e h) =
-    (l : List Grammar.Item) × (readItems (length (drop at p)) (drop at p) ≡ found l (drop e p)) × (h ≡ (held || inItems l b)) × Onward p at e
-ItemsTaken p at b held Faulty = readItems (length (drop at p)) (drop at p) ≡ missing
+abbrev pub ItemsTaken : List ℕ → List ℕ → ℕ → ℕ → Bool → Listed → Type 0
+ItemsTaken loaded p at b held (Upto e h) =
+    (l : List Grammar.Item) × (readItems (length (drop at p)) (drop at p) ≡ found l (drop e p)) × (h ≡ (held || inItems (inNamed loaded) l b)) × Onward p at e
+ItemsTaken loaded p at b held Faulty = readItems (length (drop at p)) (drop at p) ≡ missing
 
 -- One or more items, of a class with a `^` or without.
-abbrev pub AllTaken : List ℕ → ℕ → ℕ → Listed → Type 0
-AllTaken p at b (Upto e h) =
-    (x : Grammar.Item) × (l : List Grammar.Item) × ((c : Bool) → readListed c (drop at p) ≡ found (class c x l) (drop e p)) × (h ≡ inItems (x ∷ l) b) × Onward p at e
-AllTaken p at b Faulty = (c : Bool) → readListed c (drop at p) ≡ missing
+abbrev pub AllTaken : List ℕ → List ℕ → ℕ → ℕ → Listed → Type 0
+AllTaken loaded p at b (Upto e h) =
+    (x : Grammar.Item) × (l : List Grammar.Item) × ((c : Bool) → readListed c (drop at p) ≡ found (class c x l) (drop e p)) × (h ≡ inItems (inNamed loaded) (x ∷ l) b) × Onward p at e
+AllTaken loaded p at b Faulty = (c : Bool) → readListed c (drop at p) ≡ missing
 
 -- A class, and whether it holds b.
-abbrev pub ClassHeld : List ℕ → ℕ → ℕ → Listed → Type 0
-ClassHeld p at b (Upto e h) =
-    (c : Bool) × (x : Grammar.Item) × (l : List Grammar.Item) × (readClass (drop at p) ≡ found (class c x l) (drop e p)) × (h ≡ inClass c (x ∷ l) b) × Onward p at e
-ClassHeld p at b Faulty = readClass (drop at p) ≡ missing
+abbrev pub ClassHeld : List ℕ → List ℕ → ℕ → ℕ → Listed → Type 0
+ClassHeld loaded p at b (Upto e h) =
+    (c : Bool) × (x : Grammar.Item) × (l : List Grammar.Item) × (readClass (drop at p) ≡ found (class c x l) (drop e p)) × (h ≡ inClass (inNamed loaded) c (x ∷ l) b) × Onward p at e
+ClassHeld loaded p at b Faulty = readClass (drop at p) ≡ missing
 
 -- One or two digits.
 abbrev pub NumberFound : List ℕ → ℕ → Number → Type 0

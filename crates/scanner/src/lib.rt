@@ -1,12 +1,11 @@
-// The pieces of a pattern's text: an item of a class, a class, a count, and whether the leaf at a place holds a byte.
+// The pieces of a pattern's text: an item of a class, a class, a count, and whether the leaf at a place holds a byte, by the table of named sets that is loaded.
 // No function reads past the text, and each has an answer for every place.
 ghost use mathlib.Core.Path.{_≡_};
 ghost use mathlib.Core.Bool.{_||_};
-ghost use Prim.Native.Nat.{_<_, _/_, _%_};
+ghost use Prim.Native.Nat.{_<_};
 ghost use lib.ListN.{getD, drop};
-ghost use lib.Dec.{eqb};
 ghost use Rattle.grammar.specs.Grammar.{kind, special, inside, marked};
-ghost use Rattle.grammar.specs.Sets.{setTable, spans};
+ghost use Rattle.grammar.specs.Sets.{isOn, spans};
 ghost use Rattle.grammar.specs.Code.Reader.{readEscaped, readInner, readClass};
 ghost use Rattle.grammar.specs.Code.Codes.{firstHolds, foundHolds, leafHolds};
 ghost use Rattle.scanner.specs.Scanned.{ItemFound, ClassFound, CountFound};
@@ -231,24 +230,28 @@ pub fn read_item(s: &[u8], at: usize) -> Item
     read_range(s, next, value)
 }
 
-// The named sets that hold b, as bits.
-fn set_bits(b: u8) -> u8
-    ensures { λ r. ⌜ r ≡ getD setTable b 0 ⌝ }
+// The named sets that hold b, as bits. A byte that has no entry is in none.
+fn set_bits(loaded: &[u8], b: u8) -> u8
+    ensures { λ r. ⌜ r ≡ getD (now (loaded .entry)) b 0 ⌝ }
 {
-    SETS[words::wide(b)]
+    let i = words::wide(b);
+    if loaded.len() <= i {
+        return 0;
+    }
+    loaded[i]
 }
 
 // Whether the named set of the bit holds b.
-fn in_set(bit: u8, b: u8) -> bool
+fn in_set(loaded: &[u8], bit: u8, b: u8) -> bool
     requires { ⌜ 0 < bit ⌝ }
-    ensures { λ r. ⌜ r ≡ eqb (getD setTable b 0 / bit % 2) 1 ⌝ }
+    ensures { λ r. ⌜ r ≡ isOn (getD (now (loaded .entry)) b 0) bit ⌝ }
 {
-    set_bits(b) / bit % 2 == 1
+    set_bits(loaded, b) / bit % 2 == 1
 }
 
 // One item more, after items of which one holds b if held.
-fn take_item(s: &[u8], at: usize, b: u8, held: bool) -> Listed
-    ensures { λ r. ⌜ ItemTaken (now (s .entry)) at b held r ⌝ }
+fn take_item(loaded: &[u8], s: &[u8], at: usize, b: u8, held: bool) -> Listed
+    ensures { λ r. ⌜ ItemTaken (now (loaded .entry)) (now (s .entry)) at b held r ⌝ }
 {
     let item = read_item(s, at);
     match item {
@@ -262,15 +265,15 @@ fn take_item(s: &[u8], at: usize, b: u8, held: bool) -> Listed
         },
         Item::Named { bit, next } => Listed::Upto {
             next,
-            holds: words::either(held, in_set(bit, b)),
+            holds: words::either(held, in_set(loaded, bit, b)),
         },
         Item::NoItem => Listed::Faulty,
     }
 }
 
 // The items up to the `]` that ends the class.
-fn take_items(s: &[u8], at: usize, b: u8, held: bool) -> Listed
-    ensures { λ r. ⌜ ItemsTaken (now (s .entry)) at b held r ⌝ }
+fn take_items(loaded: &[u8], s: &[u8], at: usize, b: u8, held: bool) -> Listed
+    ensures { λ r. ⌜ ItemsTaken (now (loaded .entry)) (now (s .entry)) at b held r ⌝ }
 {
     let mut i = at;
     let mut holds = held;
@@ -278,7 +281,7 @@ fn take_items(s: &[u8], at: usize, b: u8, held: bool) -> Listed
         if s[i] == b']' {
             return Listed::Upto { next: i + 1, holds };
         }
-        let item = take_item(s, i, b, holds);
+        let item = take_item(loaded, s, i, b, holds);
         let Listed::Upto { next, holds: more } = item else {
             return Listed::Faulty;
         };
@@ -289,24 +292,24 @@ fn take_items(s: &[u8], at: usize, b: u8, held: bool) -> Listed
 }
 
 // The items of a class, one or more.
-fn take_all(s: &[u8], at: usize, b: u8) -> Listed
-    ensures { λ r. ⌜ AllTaken (now (s .entry)) at b r ⌝ }
+fn take_all(loaded: &[u8], s: &[u8], at: usize, b: u8) -> Listed
+    ensures { λ r. ⌜ AllTaken (now (loaded .entry)) (now (s .entry)) at b r ⌝ }
 {
-    let first = take_item(s, at, b, false);
+    let first = take_item(loaded, s, at, b, false);
     let Listed::Upto { next, holds } = first else {
         return Listed::Faulty;
     };
-    take_items(s, next, b, holds)
+    take_items(loaded, s, next, b, holds)
 }
 
 // A class, from after its `[`, and whether it holds b.
-fn class_at(s: &[u8], at: usize, b: u8) -> Listed
-    ensures { λ r. ⌜ ClassHeld (now (s .entry)) at b r ⌝ }
+fn class_at(loaded: &[u8], s: &[u8], at: usize, b: u8) -> Listed
+    ensures { λ r. ⌜ ClassHeld (now (loaded .entry)) (now (s .entry)) at b r ⌝ }
 {
     if !has_byte(s, at, b'^') {
-        return take_all(s, at, b);
+        return take_all(loaded, s, at, b);
     }
-    let items = take_all(s, at + 1, b);
+    let items = take_all(loaded, s, at + 1, b);
     let Listed::Upto { next, holds } = items else {
         return Listed::Faulty;
     };
@@ -316,11 +319,11 @@ fn class_at(s: &[u8], at: usize, b: u8) -> Listed
     }
 }
 
-// The place after a class, from after its `[`. What the class holds does not matter here, so it is asked for any byte.
+// The place after a class, from after its `[`. What the class holds does not matter here, so it is asked for any byte, by no table.
 pub fn read_class(s: &[u8], at: usize) -> Class
     ensures found { λ r. ⌜ ClassFound (now (s .entry)) at r ⌝ }
 {
-    let class = class_at(s, at, 0);
+    let class = class_at(b"", s, at, 0);
     let Listed::Upto { next, holds: _ } = class else {
         return Class::NoClass;
     };
@@ -328,10 +331,10 @@ pub fn read_class(s: &[u8], at: usize) -> Class
 }
 
 // A class that is not one holds no byte.
-fn class_holds(s: &[u8], at: usize, b: u8) -> bool
-    ensures { λ r. ⌜ r ≡ foundHolds (readClass (drop at (now (s .entry)))) b ⌝ }
+fn class_holds(loaded: &[u8], s: &[u8], at: usize, b: u8) -> bool
+    ensures { λ r. ⌜ r ≡ foundHolds (now (loaded .entry)) (readClass (drop at (now (s .entry)))) b ⌝ }
 {
-    let class = class_at(s, at, b);
+    let class = class_at(loaded, s, at, b);
     let Listed::Upto { next: _, holds } = class else {
         return false;
     };
@@ -339,8 +342,8 @@ fn class_holds(s: &[u8], at: usize, b: u8) -> bool
 }
 
 // Whether the leaf at a place holds b: a byte after `\`, a class, `.`, or a byte that is not special. What is no leaf holds nothing.
-pub fn leaf_holds(s: &[u8], at: usize, b: u8) -> bool
-    ensures member { λ r. ⌜ r ≡ leafHolds (drop at (now (s .entry))) b ⌝ }
+pub fn leaf_holds(loaded: &[u8], s: &[u8], at: usize, b: u8) -> bool
+    ensures member { λ r. ⌜ r ≡ leafHolds (now (loaded .entry)) (drop at (now (s .entry))) b ⌝ }
 {
     if s.len() <= at {
         return false;
@@ -350,7 +353,7 @@ pub fn leaf_holds(s: &[u8], at: usize, b: u8) -> bool
         return has_byte(s, at + 1, b);
     }
     if c == b'[' {
-        return class_holds(s, at + 1, b);
+        return class_holds(loaded, s, at + 1, b);
     }
     if c == b'.' {
         return b != b'\n';
@@ -450,263 +453,3 @@ pub fn read_count(s: &[u8], at: usize) -> Count
         next: next + 1,
     }
 }
-
-// The named sets that hold each byte, from the highest bit: alpha, digit, alnum, upper, lower, xdigit, space, punct.
-const SETS: [u8; 256] = [
-    0,
-    0,
-    0,
-    0,
-    0,
-    0,
-    0,
-    0,
-    0,
-    2, // tab
-    2,
-    2,
-    2,
-    2, // carriage return
-    0,
-    0,
-    0,
-    0,
-    0,
-    0,
-    0,
-    0,
-    0,
-    0,
-    0,
-    0,
-    0,
-    0,
-    0,
-    0,
-    0,
-    0,
-    2, // space
-    1,
-    1,
-    1,
-    1,
-    1,
-    1,
-    1,
-    1,
-    1,
-    1,
-    1,
-    1,
-    1,
-    1,
-    1,
-    100, // 0
-    100,
-    100,
-    100,
-    100,
-    100,
-    100,
-    100,
-    100,
-    100, // 9
-    1,
-    1,
-    1,
-    1,
-    1,
-    1,
-    1,
-    180, // A
-    180,
-    180,
-    180,
-    180,
-    180, // F
-    176,
-    176,
-    176,
-    176,
-    176,
-    176,
-    176,
-    176,
-    176,
-    176,
-    176,
-    176,
-    176,
-    176,
-    176,
-    176,
-    176,
-    176,
-    176,
-    176, // Z
-    1,
-    1,
-    1,
-    1,
-    1,
-    1,
-    172, // a
-    172,
-    172,
-    172,
-    172,
-    172, // f
-    168,
-    168,
-    168,
-    168,
-    168,
-    168,
-    168,
-    168,
-    168,
-    168,
-    168,
-    168,
-    168,
-    168,
-    168,
-    168,
-    168,
-    168,
-    168,
-    168, // z
-    1,
-    1,
-    1,
-    1, // ~
-    0,
-    0,
-    0,
-    0,
-    0,
-    0,
-    0,
-    0,
-    0,
-    0,
-    0,
-    0,
-    0,
-    0,
-    0,
-    0,
-    0,
-    0,
-    0,
-    0,
-    0,
-    0,
-    0,
-    0,
-    0,
-    0,
-    0,
-    0,
-    0,
-    0,
-    0,
-    0,
-    0,
-    0,
-    0,
-    0,
-    0,
-    0,
-    0,
-    0,
-    0,
-    0,
-    0,
-    0,
-    0,
-    0,
-    0,
-    0,
-    0,
-    0,
-    0,
-    0,
-    0,
-    0,
-    0,
-    0,
-    0,
-    0,
-    0,
-    0,
-    0,
-    0,
-    0,
-    0,
-    0,
-    0,
-    0,
-    0,
-    0,
-    0,
-    0,
-    0,
-    0,
-    0,
-    0,
-    0,
-    0,
-    0,
-    0,
-    0,
-    0,
-    0,
-    0,
-    0,
-    0,
-    0,
-    0,
-    0,
-    0,
-    0,
-    0,
-    0,
-    0,
-    0,
-    0,
-    0,
-    0,
-    0,
-    0,
-    0,
-    0,
-    0,
-    0,
-    0,
-    0,
-    0,
-    0,
-    0,
-    0,
-    0,
-    0,
-    0,
-    0,
-    0,
-    0,
-    0,
-    0,
-    0,
-    0,
-    0,
-    0,
-    0,
-    0,
-    0,
-    0,
-    0,
-    0,
-    0,
-    0,
-];

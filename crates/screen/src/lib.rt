@@ -9,10 +9,15 @@ pub struct Counted {
 }
 
 // Reads a pattern, and hands out the number of each byte's group and the lowest byte of each group, with zeros after the last. A refused pattern leaves both as they are.
-pub fn groups(pattern: &[u8], group: &mut [u8; 256], lowest: &mut [u8; 256]) -> Counted
-    ensures shown { λ r. ⌜ Shows (now (pattern .entry)) (now (group .entry)) (now (lowest .entry)) r (now (group .exit)) (now (lowest .exit)) ⌝ }
+pub fn groups(
+    loaded: &[u8],
+    pattern: &[u8],
+    group: &mut [u8; 256],
+    lowest: &mut [u8; 256],
+) -> Counted
+    ensures shown { λ r. ⌜ Shows (now (loaded .entry)) (now (pattern .entry)) (now (group .entry)) (now (lowest .entry)) r (now (group .exit)) (now (lowest .exit)) ⌝ }
 {
-    let reading = reader::read(pattern);
+    let reading = reader::read(loaded, pattern);
     let answer = reading.answer;
     let Answer::Accepted = answer else {
         return Counted {
@@ -35,12 +40,12 @@ pub fn groups(pattern: &[u8], group: &mut [u8; 256], lowest: &mut [u8; 256]) -> 
 
 // Replaces each byte of a line by a printable byte of its group, where there is one: both readings cut the line at the places where they cut it before. A refused
 // pattern leaves it as it is.
-pub fn readable(pattern: &[u8], line: &mut [u8]) -> Answer
-    ensures replaced { λ r. ⌜ Rewrites (now (pattern .entry)) (now (line .entry)) r (now (line .exit)) ⌝ }
+pub fn readable(loaded: &[u8], pattern: &[u8], line: &mut [u8]) -> Answer
+    ensures replaced { λ r. ⌜ Rewrites (now (loaded .entry)) (now (pattern .entry)) (now (line .entry)) r (now (line .exit)) ⌝ }
 {
     let mut group = [0u8; 256];
     let mut lowest = [0u8; 256];
-    let own = groups(pattern, &mut group, &mut lowest);
+    let own = groups(loaded, pattern, &mut group, &mut lowest);
     let answer = own.answer;
     let Answer::Accepted = answer else {
         return answer;

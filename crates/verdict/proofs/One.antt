@@ -15,12 +15,10 @@ use Rattle.theory.specs.Code.Search.{SearchEnd, alike, unlike, full}
 use Rattle.theory.proofs.Run.{check}
 use Rattle.theory.proofs.Tests.{T-true, not-true}
 use Rattle.grammar.specs.Grammar.{Alternation}
-use Rattle.grammar.specs.Limits.{Reads}
-use Rattle.grammar.specs.Refusals.{Answer, accepted, refused, Right}
-use Rattle.grammar.specs.Code.Reader.{read}
+use Rattle.grammar.specs.Loaded.{Accepts, Answers}
+use Rattle.grammar.specs.Refusals.{Answer, accepted, refused}
 use Rattle.grammar.specs.WriteOut.{writeOut}
-use Rattle.grammar.proofs.Sound.{read-right}
-use Rattle.grammar.proofs.Unique.{right-unique}
+use Rattle.grammar.proofs.Loaded.{answered, answered-is}
 use Rattle.grammar.proofs.Size.{writeOut-numbered}
 use Rattle.verdict.specs.Record.{formOf}
 use Rattle.verdict.specs.Table.{records, slots, onto}
@@ -47,22 +45,22 @@ answer r t v (unlike-of L w) =
 answer r t v (full-of L) = whole (refuse 10 0) (onto t (records (formOf r) (standing r) L)) v
 
 -- The search's outcome for a tree, and the whole answer, computed.
-abbrev pub searched : List ℕ → Alternation → Shown
-searched t a = show (check (writeOut a) (writeOut-numbered a) (slots (formOf (writeOut a)) (length t)))
+abbrev pub searched : List ℕ → List ℕ → Alternation → Shown
+searched loaded t a = show (check (writeOut loaded a) (writeOut-numbered loaded a) (slots (formOf (writeOut loaded a)) (length t)))
 
-abbrev pub read-answer : List ℕ → List ℕ → Answer → Whole
-read-answer t v (accepted a) = answer (writeOut a) t v (searched t a)
-read-answer t v (refused n q) = whole (refuse n q) t v
+abbrev pub read-answer : List ℕ → List ℕ → List ℕ → Answer → Whole
+read-answer loaded t v (accepted a) = answer (writeOut loaded a) t v (searched loaded t a)
+read-answer loaded t v (refused n q) = whole (refuse n q) t v
 
-unfoldable pub found : List ℕ → List ℕ → List ℕ → Whole
-found p t v = read-answer t v (read p)
+unfoldable pub found : List ℕ → List ℕ → List ℕ → List ℕ → Whole
+found loaded p t v = read-answer loaded t v (answered loaded p .0)
 
 -- It is right,
-pub found-right : (p t v : List ℕ) → Found p t v (result (found p t v)) (table (found p t v)) (witness (found p t v))
+pub found-right : (loaded p t v : List ℕ) → Found loaded p t v (result (found loaded p t v)) (table (found loaded p t v)) (witness (found loaded p t v))
 unfolding found
-found-right p t v = go (read p) (read-right p)
+found-right loaded p t v = go (answered loaded p .0) (answered loaded p .1)
   where
-    outcome : {a : Alternation} → Reads p a → (o : SearchEnd (writeOut a) (slots (formOf (writeOut a)) (length t))) → (s : Whole) → answer (writeOut a) t v (show o) ≡ s → Found p t v (result s) (table s) (witness s)
+    outcome : {a : Alternation} → Accepts loaded p a → (o : SearchEnd (writeOut loaded a) (slots (formOf (writeOut loaded a)) (length t))) → (s : Whole) → answer (writeOut loaded a) t v (show o) ≡ s → Found loaded p t v (result s) (table s) (witness s)
     outcome h (alike L i a) s e = same-cuts h a i (ap result (sym e)) (ap table (sym e)) (ap witness (sym e))
     outcome h (full L i a) s e = no-slot h a i (ap result (sym e)) (ap table (sym e)) (ap witness (sym e))
     outcome h (unlike L w i a) s e =
@@ -73,26 +71,26 @@ found-right p t v = go (read p) (read-right p)
               first-witness h a i (omega arith) (ap result (sym f)) (ap table (sym f)) (ap witness (sym f)))
         ]
 
-    go : (x : Answer) → Right p x → Found p t v (result (read-answer t v x)) (table (read-answer t v x)) (witness (read-answer t v x))
+    go : (x : Answer) → Answers loaded p x → Found loaded p t v (result (read-answer loaded t v x)) (table (read-answer loaded t v x)) (witness (read-answer loaded t v x))
     go (refused n q) h = not-read h refl refl refl
-    go (accepted a) h = outcome h (check (writeOut a) (writeOut-numbered a) (slots (formOf (writeOut a)) (length t))) _ refl
+    go (accepted a) h = outcome h (check (writeOut loaded a) (writeOut-numbered loaded a) (slots (formOf (writeOut loaded a)) (length t))) _ refl
 
 -- And nothing else is.
-pub found-only : {p t v : List ℕ} {x : Result} {t′ v′ : List ℕ} → Found p t v x t′ v′ → found p t v ≡ whole x t′ v′
+pub found-only : {loaded p t v : List ℕ} {x : Result} {t′ v′ : List ℕ} → Found loaded p t v x t′ v′ → found loaded p t v ≡ whole x t′ v′
 unfolding found
-found-only {p} {t} {v} {x} {t′} {v′} c = go c
+found-only {loaded} {p} {t} {v} {x} {t′} {v′} c = go c
   where
     join : {y : Result} {t″ v″ : List ℕ} → x ≡ y → t′ ≡ t″ → v′ ≡ v″ → whole y t″ v″ ≡ whole x t′ v′
     join e f g = rw (e, f, g)
 
-    by : {a : Alternation} → Reads p a → (o : SearchEnd (writeOut a) (slots (formOf (writeOut a)) (length t))) → answer (writeOut a) t v (show o) ≡ whole x t′ v′ → read-answer t v (read p) ≡ whole x t′ v′
+    by : {a : Alternation} → Accepts loaded p a → (o : SearchEnd (writeOut loaded a) (slots (formOf (writeOut loaded a)) (length t))) → answer (writeOut loaded a) t v (show o) ≡ whole x t′ v′ → read-answer loaded t v (answered loaded p .0) ≡ whole x t′ v′
     by {a} h o e =
-        ap (read-answer t v) (right-unique p (accepted a) h)
-        ∙ ap (answer (writeOut a) t v) (same-outcome (writeOut a) (writeOut-numbered a) (check (writeOut a) (writeOut-numbered a) (slots (formOf (writeOut a)) (length t))) o)
+        ap (read-answer loaded t v) (answered-is loaded p (accepted a) h)
+        ∙ ap (answer (writeOut loaded a) t v) (same-outcome (writeOut loaded a) (writeOut-numbered loaded a) (check (writeOut loaded a) (writeOut-numbered loaded a) (slots (formOf (writeOut loaded a)) (length t))) o)
         ∙ e
 
-    go : Found p t v x t′ v′ → read-answer t v (read p) ≡ whole x t′ v′
-    go (not-read {n = n} {q = q} h e f g) = ap (read-answer t v) (right-unique p (refused n q) h) ∙ join e f g
+    go : Found loaded p t v x t′ v′ → read-answer loaded t v (answered loaded p .0) ≡ whole x t′ v′
+    go (not-read {n = n} {q = q} h e f g) = ap (read-answer loaded t v) (answered-is loaded p (refused n q) h) ∙ join e f g
     go (same-cuts {L = L} h a i e f g) = by h (alike L i a) (join e f g)
     go (first-witness {L = L} {w = w} h a i l e f g) =
         by h (unlike L w i a) (rw (not-true (ltb (length v) (length w)) (λ t. omega (arith, ltb→lt (length v) (length w) t))) (join e f g))
@@ -101,9 +99,9 @@ found-only {p} {t} {v} {x} {t′} {v′} c = go c
         by h (unlike L w i a) (rw (T-true (ltb (length v) (length w)) (lt→ltb (length v) (length w) l)) (join e f g))
 
 -- The answer is right exactly if it is the computed one,
-pub found-exactly : (p t v : List ℕ) (x : Result) (t′ v′ : List ℕ) → Found p t v x t′ v′ ↔ (found p t v ≡ whole x t′ v′)
-found-exactly p t v x t′ v′ = (found-only, λ e. subst (λ s. Found p t v (result s) (table s) (witness s)) e (found-right p t v))
+pub found-exactly : (loaded p t v : List ℕ) (x : Result) (t′ v′ : List ℕ) → Found loaded p t v x t′ v′ ↔ (found loaded p t v ≡ whole x t′ v′)
+found-exactly loaded p t v x t′ v′ = (found-only, λ e. subst (λ s. Found loaded p t v (result s) (table s) (witness s)) e (found-right loaded p t v))
 
 -- and two right answers are one.
-pub found-one : {p t v : List ℕ} {x y : Result} {t′ t″ v′ v″ : List ℕ} → Found p t v x t′ v′ → Found p t v y t″ v″ → (x ≡ y) × (t′ ≡ t″) × (v′ ≡ v″)
+pub found-one : {loaded p t v : List ℕ} {x y : Result} {t′ t″ v′ v″ : List ℕ} → Found loaded p t v x t′ v′ → Found loaded p t v y t″ v″ → (x ≡ y) × (t′ ≡ t″) × (v′ ≡ v″)
 found-one a b = let e = sym (found-only a) ∙ found-only b in (ap result e, ap table e, ap witness e)

@@ -99,10 +99,10 @@ records-bytes f r L (w ∷ M) = below-append 256 (recordOf f (standing r) L w) (
 onto-bytes : (t u : List ℕ) → Below 256 t → Below 256 u → Below 256 (onto t u)
 onto-bytes t u h g = below-append 256 u (drop (length u) t) g (drop-below 256 (length u) t h)
 
-pub stay-bytes : {p t v : List ℕ} {x : Result} {t′ v′ : List ℕ} → Found p t v x t′ v′ → Below 256 t → Below 256 v → Below 256 t′ × Below 256 v′
-stay-bytes (not-read h e f g) a b = (rw f a, rw g b)
-stay-bytes {t = t} (same-cuts {a = y} {L = L} h c l e f g) a b = (rw f (onto-bytes t (records (formOf (writeOut y)) (standing (writeOut y)) L) a (records-bytes (formOf (writeOut y)) (writeOut y) L L)), rw g b)
-stay-bytes {t = t} {v = v} (first-witness {a = y} {L = L} {w = w} h c l k e f g) a b =
-    (rw f (onto-bytes t (records (formOf (writeOut y)) (standing (writeOut y)) (L ++ (w ∷ []))) a (records-bytes (formOf (writeOut y)) (writeOut y) _ _)), rw g (onto-bytes v w b (first-cut (writeOut y) (writeOut-numbered y) c .bytes)))
-stay-bytes {t = t} (no-slot {a = y} {L = L} h c l e f g) a b = (rw f (onto-bytes t (records (formOf (writeOut y)) (standing (writeOut y)) L) a (records-bytes (formOf (writeOut y)) (writeOut y) L L)), rw g b)
-stay-bytes {t = t} (no-room {a = y} {L = L} {w = w} h c l k e f g) a b = (rw f (onto-bytes t (records (formOf (writeOut y)) (standing (writeOut y)) (L ++ (w ∷ []))) a (records-bytes (formOf (writeOut y)) (writeOut y) _ _)), rw g b)
+pub stay-bytes : {loaded p t v : List ℕ} {x : Result} {t′ v′ : List ℕ} → Found loaded p t v x t′ v′ → Below 256 t → Below 256 v → Below 256 t′ × Below 256 v′
+stay-bytes {loaded = loaded} (not-read h e f g) a b = (rw f a, rw g b)
+stay-bytes {loaded = loaded} {t = t} (same-cuts {a = y} {L = L} h c l e f g) a b = (rw f (onto-bytes t (records (formOf (writeOut loaded y)) (standing (writeOut loaded y)) L) a (records-bytes (formOf (writeOut loaded y)) (writeOut loaded y) L L)), rw g b)
+stay-bytes {loaded = loaded} {t = t} {v = v} (first-witness {a = y} {L = L} {w = w} h c l k e f g) a b =
+    (rw f (onto-bytes t (records (formOf (writeOut loaded y)) (standing (writeOut loaded y)) (L ++ (w ∷ []))) a (records-bytes (formOf (writeOut loaded y)) (writeOut loaded y) _ _)), rw g (onto-bytes v w b (first-cut (writeOut loaded y) (writeOut-numbered loaded y) c .bytes)))
+stay-bytes {loaded = loaded} {t = t} (no-slot {a = y} {L = L} h c l e f g) a b = (rw f (onto-bytes t (records (formOf (writeOut loaded y)) (standing (writeOut loaded y)) L) a (records-bytes (formOf (writeOut loaded y)) (writeOut loaded y) L L)), rw g b)
+stay-bytes {loaded = loaded} {t = t} (no-room {a = y} {L = L} {w = w} h c l k e f g) a b = (rw f (onto-bytes t (records (formOf (writeOut loaded y)) (standing (writeOut loaded y)) (L ++ (w ∷ []))) a (records-bytes (formOf (writeOut loaded y)) (writeOut loaded y) _ _)), rw g b)

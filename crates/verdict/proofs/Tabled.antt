@@ -16,7 +16,7 @@ use Rattle.theory.specs.Records.{at, Records, Needs, all-records, up-to-witness
 use Rattle.theory.specs.Code.Search.{Full, SearchEnd}
 use Rattle.theory.proofs.Tests.{T-true, not-true, either}
 use Rattle.grammar.specs.WriteOut.{writeOut}
-use Rattle.grammar.proofs.Right.{either-way}
+use Rattle.grammar.proofs.Loaded.{accepts-or-refuses}
 use Rattle.grammar.proofs.Size.{writeOut-numbered}
 use Rattle.verdict.specs.Record.{Form, formOf}
 use Rattle.verdict.specs.Table.{body, recordsOf, records, slots, onto}
@@ -67,25 +67,22 @@ module _ (r : Re) where
           more = (at L n, a .bytes n l, λ k i e. let m : k < n = omega (arith, size) in a .fresh k n m l (ap (standing r) (sym (old k m)) ∙ e));
         }
 
-abbrev Right : List ℕ → List ℕ → List ℕ → Whole → Type 0
-Right p t v s = Found p t v (result s) (table s) (witness s)
-
-pub tabled-found : {p t v : List ℕ} {s : Whole} → Tabled p t v s → Found p t v (result s) (table s) (witness s)
+pub tabled-found : {loaded p t v : List ℕ} {s : Whole} → Tabled loaded p t v s → Found loaded p t v (result s) (table s) (witness s)
 tabled-found (by-reader h) = not-read h refl refl refl
-tabled-found {p} {t} {v} (by-records {a = a} h (all-records {L = L} c)) =
-    elim (decLt (slots (formOf (writeOut a)) (length t)) (length L)) [
-      | yes l ↦ rw (T-true (ltb (slots (formOf (writeOut a)) (length t)) (length L)) (lt→ltb (slots (formOf (writeOut a)) (length t)) (length L) l))
-          (no-slot h (first-full (writeOut a) (c .records) (slots (formOf (writeOut a)) (length t)) (omega arith) l (λ k i. c .none k (omega arith)))
-          (length-take-le (slots (formOf (writeOut a)) (length t)) L (omega arith)) refl (ap (onto t) (first-table (writeOut a) (c .records) (slots (formOf (writeOut a)) (length t)) (omega arith) (formOf (writeOut a)))) refl)
-      | no l ↦ rw (not-true (ltb (slots (formOf (writeOut a)) (length t)) (length L)) (λ x. l (ltb→lt (slots (formOf (writeOut a)) (length t)) (length L) x)))
+tabled-found {loaded} {p} {t} {v} (by-records {a = a} h (all-records {L = L} c)) =
+    elim (decLt (slots (formOf (writeOut loaded a)) (length t)) (length L)) [
+      | yes l ↦ rw (T-true (ltb (slots (formOf (writeOut loaded a)) (length t)) (length L)) (lt→ltb (slots (formOf (writeOut loaded a)) (length t)) (length L) l))
+          (no-slot h (first-full (writeOut loaded a) (c .records) (slots (formOf (writeOut loaded a)) (length t)) (omega arith) l (λ k i. c .none k (omega arith)))
+          (length-take-le (slots (formOf (writeOut loaded a)) (length t)) L (omega arith)) refl (ap (onto t) (first-table (writeOut loaded a) (c .records) (slots (formOf (writeOut loaded a)) (length t)) (omega arith) (formOf (writeOut loaded a)))) refl)
+      | no l ↦ rw (not-true (ltb (slots (formOf (writeOut loaded a)) (length t)) (length L)) (λ x. l (ltb→lt (slots (formOf (writeOut loaded a)) (length t)) (length L) x)))
           (same-cuts h c (omega arith) refl refl refl)
     ]
-tabled-found {p} {t} {v} (by-records {a = a} h (up-to-witness L w c)) =
-    elim (decLt (slots (formOf (writeOut a)) (length t)) (length (L ++ (w ∷ [])))) [
-      | yes l ↦ rw (T-true (ltb (slots (formOf (writeOut a)) (length t)) (length (L ++ (w ∷ [])))) (lt→ltb (slots (formOf (writeOut a)) (length t)) (length (L ++ (w ∷ []))) l))
-          (no-slot h (first-full (writeOut a) (c .records) (slots (formOf (writeOut a)) (length t)) (omega arith) l (λ k i x. c .none k (omega (arith, snoc-size L w)) (subst (λ y. T (isWitness (standing (writeOut a) y))) (snoc-old L w k (omega (arith, snoc-size L w))) x)))
-          (length-take-le (slots (formOf (writeOut a)) (length t)) (L ++ (w ∷ [])) (omega arith)) refl (ap (onto t) (first-table (writeOut a) (c .records) (slots (formOf (writeOut a)) (length t)) (omega arith) (formOf (writeOut a)))) refl)
-      | no l ↦ rw (not-true (ltb (slots (formOf (writeOut a)) (length t)) (length (L ++ (w ∷ [])))) (λ x. l (ltb→lt (slots (formOf (writeOut a)) (length t)) (length (L ++ (w ∷ []))) x)))
+tabled-found {loaded} {p} {t} {v} (by-records {a = a} h (up-to-witness L w c)) =
+    elim (decLt (slots (formOf (writeOut loaded a)) (length t)) (length (L ++ (w ∷ [])))) [
+      | yes l ↦ rw (T-true (ltb (slots (formOf (writeOut loaded a)) (length t)) (length (L ++ (w ∷ [])))) (lt→ltb (slots (formOf (writeOut loaded a)) (length t)) (length (L ++ (w ∷ []))) l))
+          (no-slot h (first-full (writeOut loaded a) (c .records) (slots (formOf (writeOut loaded a)) (length t)) (omega arith) l (λ k i x. c .none k (omega (arith, snoc-size L w)) (subst (λ y. T (isWitness (standing (writeOut loaded a) y))) (snoc-old L w k (omega (arith, snoc-size L w))) x)))
+          (length-take-le (slots (formOf (writeOut loaded a)) (length t)) (L ++ (w ∷ [])) (omega arith)) refl (ap (onto t) (first-table (writeOut loaded a) (c .records) (slots (formOf (writeOut loaded a)) (length t)) (omega arith) (formOf (writeOut loaded a)))) refl)
+      | no l ↦ rw (not-true (ltb (slots (formOf (writeOut loaded a)) (length t)) (length (L ++ (w ∷ [])))) (λ x. l (ltb→lt (slots (formOf (writeOut loaded a)) (length t)) (length (L ++ (w ∷ []))) x)))
           (elim (decLt (length v) (length w)) [
             | yes g ↦ rw (T-true (ltb (length v) (length w)) (lt→ltb (length v) (length w) g)) (no-room h c (omega (arith, snoc-size L w)) g refl refl refl)
             | no g ↦ rw (not-true (ltb (length v) (length w)) (λ x. g (ltb→lt (length v) (length w) x)))
@@ -94,21 +91,21 @@ tabled-found {p} {t} {v} (by-records {a = a} h (up-to-witness L w c)) =
     ]
 
 -- Something is owed for every input,
-pub tabled-some : (p t v : List ℕ) → (s : Whole) × Tabled p t v s
-tabled-some p t v =
+pub tabled-some : (loaded p t v : List ℕ) → (s : Whole) × Tabled loaded p t v s
+tabled-some loaded p t v =
     either
-    (λ h. let (a, k) = h in either (λ c. (_, by-records k (all-records (c .1)))) (λ c. (_, by-records k (up-to-witness (c .0) (c .1) (c .2)))) (settled (writeOut a) (writeOut-numbered a)))
+    (λ h. let (a, k) = h in either (λ c. (_, by-records k (all-records (c .1)))) (λ c. (_, by-records k (up-to-witness (c .0) (c .1) (c .2)))) (settled (writeOut loaded a) (writeOut-numbered loaded a)))
     (λ h. let (n, q, k) = h in (whole (refused n q) t v, by-reader k))
-    (either-way p)
+    (accepts-or-refuses loaded p)
 
 -- and one thing: what is right.
-pub tabled-exactly : (p t v : List ℕ) (x : Result) (t′ v′ : List ℕ) → Tabled p t v (whole x t′ v′) ↔ Found p t v x t′ v′
-tabled-exactly p t v x t′ v′ = (λ h. tabled-found h, λ c. let (s, h) = tabled-some p t v in subst (Tabled p t v) (same s h c) h)
+pub tabled-exactly : (loaded p t v : List ℕ) (x : Result) (t′ v′ : List ℕ) → Tabled loaded p t v (whole x t′ v′) ↔ Found loaded p t v x t′ v′
+tabled-exactly loaded p t v x t′ v′ = (λ h. tabled-found h, λ c. let (s, h) = tabled-some loaded p t v in subst (Tabled loaded p t v) (same s h c) h)
   where
-    same : (s : Whole) → Tabled p t v s → Found p t v x t′ v′ → s ≡ whole x t′ v′
+    same : (s : Whole) → Tabled loaded p t v s → Found loaded p t v x t′ v′ → s ≡ whole x t′ v′
     same (whole y t″ v″) h c = let (a, b, d) = found-one (tabled-found h) c in rw (a, b, d)
 
-pub tabled-one : {p t v : List ℕ} {s u : Whole} → Tabled p t v s → Tabled p t v u → s ≡ u
+pub tabled-one : {loaded p t v : List ℕ} {s u : Whole} → Tabled loaded p t v s → Tabled loaded p t v u → s ≡ u
 tabled-one {s = whole x t′ v′} {u = whole y t″ v″} h k = let (a, b, d) = found-one (tabled-found h) (tabled-found k) in rw (a, b, d)
 
 -- The records that a pattern needs are one list, with one witness or none.

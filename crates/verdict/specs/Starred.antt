@@ -1,4 +1,4 @@
--- Paper 01's starred reference lines, from the bytes of the patterns; one of them as request 1 of paper 02 has it, those with a table as requests 7 and 8 have them, and
+-- Paper 01's starred reference lines, from the bytes of the patterns, with the fixed table of named sets; one of them as request 1 of paper 02 has it, those with a table as requests 7 and 8 have them, and
 -- lines of lazy repeats.
 -- Assumes nothing.
 use mathlib.Core.Path.{_≡_}
@@ -7,7 +7,8 @@ use mathlib.Core.List.{List, [], _∷_, _++_}
 use lib.ListN.{length, replicate}
 use Rattle.theory.specs.Spans.{Span, nowhere, span, greedy, posix}
 use Rattle.grammar.specs.Grammar.{Alternation}
-use Rattle.grammar.specs.Limits.{Reads}
+use Rattle.grammar.specs.Sets.{setTable}
+use Rattle.grammar.specs.Loaded.{Accepts}
 use Rattle.grammar.specs.WriteOut.{writeOut}
 use Rattle.verdict.specs.Table.{onto}
 use Rattle.verdict.specs.Tabled.{Result, alike, unlike, refused, whole}
@@ -20,8 +21,8 @@ pub data Row : Type 0 where
   checks : (pattern : List ℕ) (table buffer : ℕ) → Result → (records witness : List ℕ) → Row
 
 unfoldable pub RowHolds : Row → Type 0
-RowHolds (cuts p w g s) = (a : Alternation) × Reads p a × (greedy (writeOut a) w ≡ g) × (posix (writeOut a) w ≡ s)
-RowHolds (checks p n m x u w) = (t v s : List ℕ) → length t ≡ n → length v ≡ m → areaBytes ≤ length s → Checked p t v s (whole x (onto t u) (onto v w)) (cleared s)
+RowHolds (cuts p w g s) = (a : Alternation) × Accepts setTable p a × (greedy (writeOut setTable a) w ≡ g) × (posix (writeOut setTable a) w ≡ s)
+RowHolds (checks p n m x u w) = (t v s : List ℕ) → length t ≡ n → length v ≡ m → areaBytes ≤ length s → Checked setTable p t v s (whole x (onto t u) (onto v w)) (cleared s)
 
 unfoldable pub All : List Row → Type 0
 All [] = Unit {0}

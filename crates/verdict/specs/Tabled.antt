@@ -1,5 +1,5 @@
--- The checker's result by the records, with the content of table and witness buffer, for every pattern and for table and buffer of any lengths: all of it before
--- request 8, and from there on that of the patterns which fail its test.
+-- The checker's result by the records, with the content of table and witness buffer, for every pattern, with every table of named sets, and for table and buffer of
+-- any lengths: all of it before request 8, and from there on that of the patterns which fail its test.
 -- Assumes nothing.
 use Prim.Native.Nat.{ℕ}
 use mathlib.Core.Bool.{cond}
@@ -11,8 +11,7 @@ use Rattle.theory.specs.Pattern.{Re}
 use Rattle.theory.specs.Standing.{Standing, standing}
 use Rattle.theory.specs.Records.{Needs}
 use Rattle.grammar.specs.Grammar.{Alternation}
-use Rattle.grammar.specs.Limits.{Reads}
-use Rattle.grammar.specs.Refusals.{Fault}
+use Rattle.grammar.specs.Loaded.{Accepts, Refuses}
 use Rattle.grammar.specs.WriteOut.{writeOut}
 use Rattle.verdict.specs.Record.{Form, formOf}
 use Rattle.verdict.specs.Table.{recordsOf, records, slots, onto}
@@ -43,14 +42,14 @@ due f stand t v L w =
     (whole (refused 10 0) (onto t (recordsOf f stand L (take (slots f (length t)) L))) v)
     (decided f stand t v L w)
 
--- The result and content that the records give for the pattern p, the table t and the witness buffer v, where `form` is the form of each pattern's records and `stand`
+-- The result and content that the records give for the pattern p with the named sets that are loaded, the table t and the witness buffer v, where `form` is the form of each pattern's records and `stand`
 -- gives its lines their standings.
 -- "A refused pattern goes no further than the reader": it leaves every byte.
-pub data TabledBy (form : Re → Form) (stand : Re → List ℕ → Standing) (p t v : List ℕ) : Whole → Type 0 where
-  by-reader : {n q : ℕ} → Fault p n q → TabledBy form stand p t v (whole (refused n q) t v)
-  by-records : {a : Alternation} {L : List (List ℕ)} {w : Option (List ℕ)} → Reads p a → Needs (stand (writeOut a)) L w
-      → TabledBy form stand p t v (due (form (writeOut a)) (stand (writeOut a)) t v L w)
+pub data TabledBy (form : Re → Form) (stand : Re → List ℕ → Standing) (loaded p t v : List ℕ) : Whole → Type 0 where
+  by-reader : {n q : ℕ} → Refuses loaded p n q → TabledBy form stand loaded p t v (whole (refused n q) t v)
+  by-records : {a : Alternation} {L : List (List ℕ)} {w : Option (List ℕ)} → Accepts loaded p a → Needs (stand (writeOut loaded a)) L w
+      → TabledBy form stand loaded p t v (due (form (writeOut loaded a)) (stand (writeOut loaded a)) t v L w)
 
 -- By request 7's records, and judged by the order of preference.
-abbrev pub Tabled : List ℕ → List ℕ → List ℕ → Whole → Type 0
-Tabled p t v z = TabledBy formOf standing p t v z
+abbrev pub Tabled : List ℕ → List ℕ → List ℕ → List ℕ → Whole → Type 0
+Tabled loaded p t v z = TabledBy formOf standing loaded p t v z

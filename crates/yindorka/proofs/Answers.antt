@@ -30,10 +30,10 @@ use Rattle.yindorka.specs.declared.Refusal.{Refusal}
 use Rattle.yindorka.specs.declared.Counted.{Counted}
 use Rattle.yindorka.specs.Calls.{refusalOf, countedOf, Measures, Sizes, located, none, Cuts, spanned, nothing, CutsFields}
 
-module _ {p : List ℕ} {r : Reading} (read : ReadRight p r) {x : Refusal} (is : x ≡ refusalOf (r .answer)) where
+module _ {loaded p : List ℕ} {r : Reading} (read : ReadRight loaded p r) {x : Refusal} (is : x ≡ refusalOf (r .answer)) where
   -- The lengths of an accepted pattern,
   pub measures-accepted : {limited bytes : ℕ} {b : Bool} → r .answer ≡ Accepted → b ≡ isLimited (longestOf (r .lengths .greatest)) → limited ≡ cond b 1 0 → bytes ≡ bytesOf (longestOf (r .lengths .greatest))
-      → Measures p (record { number = x .number; place = x .place; least = r .lengths .least; limited = limited; greatest = bytes })
+      → Measures loaded p (record { number = x .number; place = x .place; least = r .lengths .least; limited = limited; greatest = bytes })
   measures-accepted {limited} {bytes} e q f g =
       let (t, reads, l, most) = accepted-lengths read e in
       let a : x ≡ record { number = 0; place = 0 } = is ∙ ap refusalOf e in
@@ -42,21 +42,21 @@ module _ {p : List ℕ} {r : Reading} (read : ReadRight p r) {x : Refusal} (is :
       record { answer = Due.accepted t; right = reads; is = λ i. record { number = a i .number; place = a i .place; least = l i; limited = flag i; greatest = size i } }
 
   -- and of a refused one none.
-  pub measures-refused : {n q : ℕ} → r .answer ≡ Refused n q → Measures p (record { number = x .number; place = x .place; least = 0; limited = 0; greatest = 0 })
+  pub measures-refused : {n q : ℕ} → r .answer ≡ Refused n q → Measures loaded p (record { number = x .number; place = x .place; least = 0; limited = 0; greatest = 0 })
   measures-refused {n} {q} e =
       let a : x ≡ record { number = n; place = q } = is ∙ ap refusalOf e in
       record { answer = Due.refused n q; right = refused-fault read e; is = λ i. record { number = a i .number; place = a i .place; least = 0; limited = 0; greatest = 0 } }
 
-module _ {p : List ℕ} {r : Reading} (read : ReadRight p r) {x : Counted} where
+module _ {loaded p : List ℕ} {r : Reading} (read : ReadRight loaded p r) {x : Counted} where
   -- The bytes of an accepted pattern's records,
-  pub sizes-accepted : {n : ℕ} → r .answer ≡ Accepted → n ≡ narrow (min (r .pattern .leaves) 64) .bytes → x ≡ countedOf (r .answer) n → Sizes p x
+  pub sizes-accepted : {n : ℕ} → r .answer ≡ Accepted → n ≡ narrow (min (r .pattern .leaves) 64) .bytes → x ≡ countedOf (r .answer) n → Sizes loaded p x
   sizes-accepted {n} e f g =
       let (t, reads, d) = accepted-reads read e in
-      let leaves : min (r .pattern .leaves) 64 ≡ count (writeOut t) = ap (λ n. min n 64) (accepted-holds read e .leaves) ∙ min-eq-left (accepted-leaves read e .1) ∙ ap count d in
+      let leaves : min (r .pattern .leaves) 64 ≡ count (writeOut loaded t) = ap (λ n. min n 64) (accepted-holds read e .leaves) ∙ min-eq-left (accepted-leaves read e .1) ∙ ap count d in
       record { answer = Due.accepted t; right = reads; is = g ∙ ap₂ countedOf e (f ∙ ap (λ n. narrow n .bytes) leaves) }
 
   -- and of a refused one's none.
-  pub sizes-refused : {n q : ℕ} → r .answer ≡ Refused n q → x ≡ countedOf (r .answer) 0 → Sizes p x
+  pub sizes-refused : {n q : ℕ} → r .answer ≡ Refused n q → x ≡ countedOf (r .answer) 0 → Sizes loaded p x
   sizes-refused {n} {q} e g = record { answer = Due.refused n q; right = refused-fault read e; is = g ∙ ap (λ a. countedOf a 0) e }
 
 module _ {t : Tables} {w : List ℕ} {s : Spans} (cut : Matchers.Cuts t w s) {old : List ℕ} where

@@ -1,4 +1,4 @@
--- What the functions of the library for other languages promise: the answers of the readings and of the checker, as numbers.
+-- What the functions of the library for other languages promise: the answers of the readings and of the checker, as numbers, with the table of named sets that is loaded.
 -- Assumes nothing.
 use mathlib.Core.Path.{_≡_}
 use Prim.Native.Nat.{ℕ, suc, _+_, _<_}
@@ -15,13 +15,16 @@ use Rattle.fields.specs.Cuts.{Lent}
 use Rattle.fields.specs.Cuts as Fields
 use Rattle.theory.specs.Pattern.{Re}
 use Rattle.theory.specs.Spans.{nowhere, span, greedy, posix}
-use Rattle.grammar.specs.Refusals.{Right}
+use Rattle.grammar.specs.Loaded.{Answers}
 use Rattle.grammar.specs.Refusals as Due
 use Rattle.grammar.specs.WriteOut.{writeOut}
 use Rattle.verdict.specs.Record.{formOf}
 use Rattle.lengths.specs.Lengths.{lengths}
 use Rattle.lengths.specs.Code.{isLimited, bytesOf}
 use Rattle.matchers.specs.Tables.{Tables, Ready}
+use Rattle.sets.specs.declared.Checked.{Checked}
+use Rattle.sets.specs.declared.Checked.the-variants.{Usable, Faulty}
+use Rattle.sets.specs.Checks as Sets
 use Rattle.reader.specs.declared.Answer.{Answer}
 use Rattle.reader.specs.declared.Answer.the-variants.{Accepted, Refused}
 use Rattle.readings.specs.Tables as Readings
@@ -49,10 +52,20 @@ refusalOf (Refused n k) = record { number = n; place = k }
 abbrev pub countedOf : Answer → ℕ → Counted
 countedOf x n = record { number = refusalOf x .number; place = refusalOf x .place; count = n }
 
+-- A table of named sets passes its checks, or is refused with 14 and the place (request 9).
+abbrev pub answerOf : Checked → Answer
+answerOf Usable = Accepted
+answerOf (Faulty q) = Refused 14 q
+
+pub record ChecksSets (loaded : List ℕ) (r : Refusal) : Type 0 where
+  pub check : Checked
+  pub checks : Sets.Checks loaded check
+  pub means : r ≡ refusalOf (answerOf check)
+
 -- The tables are an accepted pattern's own, or they are kept.
-pub record Prepares (p : List ℕ) (old : Tables) (r : Refusal) (new : Tables) : Type 0 where
+pub record Prepares (loaded p : List ℕ) (old : Tables) (r : Refusal) (new : Tables) : Type 0 where
   pub answer : Answer
-  pub prepared : Readings.Prepared p old answer new
+  pub prepared : Readings.Prepared loaded p old answer new
   pub means : r ≡ refusalOf answer
 
 -- 1: both spans begin at the first number, the greedy one ends at the second and the POSIX one at the third. 0: neither is there, and the numbers are kept.
@@ -65,9 +78,9 @@ pub record Cuts (t : Tables) (w old : List ℕ) (x : ℕ) (new : List ℕ) : Typ
   pub cut : {r : Re} → Ready r t → CutTo r w old x new
 
 -- The same for fields, with their number.
-pub record PreparesFields (p : List ℕ) (old : Lent) (r : Counted) (new : Lent) : Type 0 where
+pub record PreparesFields (loaded p : List ℕ) (old : Lent) (r : Counted) (new : Lent) : Type 0 where
   pub answer : Prepared
-  pub prepared : Fields.Prepares p old answer new
+  pub prepared : Fields.Prepares loaded p old answer new
   pub means : r ≡ countedOf (answer .answer) (answer .count)
 
 -- Found 1: the greedy span's start and end; place f is the start of the field f + 1 and place 8 + f its end, each if its bit is set, and the field is absent without
@@ -89,31 +102,31 @@ abbrev pub lengthsOf : Due.Answer → Lengths
 lengthsOf (Due.accepted t) = record { number = 0; place = 0; least = lengths t .least; limited = cond (isLimited (lengths t .greatest)) 1 0; greatest = bytesOf (lengths t .greatest) }
 lengthsOf (Due.refused n q) = record { number = n; place = q; least = 0; limited = 0; greatest = 0 }
 
-pub record Measures (p : List ℕ) (r : Lengths) : Type 0 where
+pub record Measures (loaded p : List ℕ) (r : Lengths) : Type 0 where
   pub answer : Due.Answer
-  pub right : Right p answer
+  pub right : Answers loaded p answer
   pub is : r ≡ lengthsOf answer
 
 -- Number 0: how many bytes a record of the pattern has (request 7). Else the refusal, and none.
-abbrev pub sizeOf : Due.Answer → Counted
-sizeOf (Due.accepted t) = record { number = 0; place = 0; count = formOf (writeOut t) .bytes }
-sizeOf (Due.refused n q) = record { number = n; place = q; count = 0 }
+abbrev pub sizeOf : List ℕ → Due.Answer → Counted
+sizeOf loaded (Due.accepted t) = record { number = 0; place = 0; count = formOf (writeOut loaded t) .bytes }
+sizeOf loaded (Due.refused n q) = record { number = n; place = q; count = 0 }
 
-pub record Sizes (p : List ℕ) (r : Counted) : Type 0 where
+pub record Sizes (loaded p : List ℕ) (r : Counted) : Type 0 where
   pub answer : Due.Answer
-  pub right : Right p answer
-  pub is : r ≡ sizeOf answer
+  pub right : Answers loaded p answer
+  pub is : r ≡ sizeOf loaded answer
 
 -- The groups of an accepted pattern, by their numbers; the arrays of a refused one are kept.
-pub record ShowsGroups (p group lowest : List ℕ) (r : Counted) (group′ lowest′ : List ℕ) : Type 0 where
+pub record ShowsGroups (loaded p group lowest : List ℕ) (r : Counted) (group′ lowest′ : List ℕ) : Type 0 where
   pub own : Screen.Counted
-  pub shown : Shows p group lowest own group′ lowest′
+  pub shown : Shows loaded p group lowest own group′ lowest′
   pub means : r ≡ countedOf (own .answer) (own .count)
 
 -- The line in readable bytes, for an accepted pattern; that of a refused one is kept.
-pub record RewritesLine (p w : List ℕ) (r : Refusal) (w′ : List ℕ) : Type 0 where
+pub record RewritesLine (loaded p w : List ℕ) (r : Refusal) (w′ : List ℕ) : Type 0 where
   pub answer : Answer
-  pub rewritten : Rewrites p w answer w′
+  pub rewritten : Rewrites loaded p w answer w′
   pub means : r ≡ refusalOf answer
 
 -- Kind 0: alike with the record count, 0 if the test settled it. 1: unlike with the count and the witness's length. 2: refused with number and place.
@@ -122,9 +135,9 @@ outcomeOf (Alike n) = record { kind = 0; first = n; second = 0 }
 outcomeOf (Unlike n k) = record { kind = 1; first = n; second = k }
 outcomeOf (Verdicts.Refused n q) = record { kind = 2; first = n; second = q }
 
-pub record Decided (p t v s : List ℕ) (x : Outcome) (t′ v′ s′ : List ℕ) : Type 0 where
+pub record Decided (loaded p t v s : List ℕ) (x : Outcome) (t′ v′ s′ : List ℕ) : Type 0 where
   pub verdict : Verdict
-  pub checks : Checks p t v s verdict t′ v′ s′
+  pub checks : Checks loaded p t v s verdict t′ v′ s′
   pub means : x ≡ outcomeOf verdict
 
 -- The same with the looking.
@@ -133,7 +146,7 @@ lookingOf x =
     let y = outcomeOf (x .verdict) in
     record { kind = y .kind; first = y .first; second = y .second; looks = x .looking .looks; comparisons = x .looking .comparisons }
 
-pub record Told (p t v s : List ℕ) (x : Looking) (t′ v′ s′ : List ℕ) : Type 0 where
+pub record Told (loaded p t v s : List ℕ) (x : Looking) (t′ v′ s′ : List ℕ) : Type 0 where
   pub report : Report
-  pub reports : Reports p t v s report t′ v′ s′
+  pub reports : Reports loaded p t v s report t′ v′ s′
   pub means : x ≡ lookingOf report

@@ -1,13 +1,16 @@
-// The library for other languages: how long a match of a pattern can be, how many bytes its records have, its tables, both spans of a line by them, the fields of its greedy span, its byte groups, and the checker. No function keeps a state, allocates or
+// The library for other languages. A call whose name ends in `_with_sets` takes a table of named sets of any length and content, which is checked first (request 9); the call
+// without that ending is the same with the fixed table: how long a match of a pattern can be, how many bytes its records have, its tables, both spans of a line by them, the fields of its greedy span, its byte groups, and the checker. No function keeps a state, allocates or
 // fails: a pattern that is no pattern is refused.
 ghost use mathlib.Core.Path.{_≡_};
 ghost use mathlib.Core.Bool.{cond};
+ghost use Rattle.grammar.specs.Sets.{setTable};
 ghost use Rattle.matchers.specs.Tables.{tables};
 ghost use Rattle.fields.specs.Cuts.{lent};
-ghost use Rattle.yindorka.specs.Calls.{refusalOf, countedOf, Measures, Sizes, Prepares, Cuts, PreparesFields, CutsFields, ShowsGroups, RewritesLine, Decided, outcomeOf, Told};
+ghost use Rattle.yindorka.specs.Calls.{refusalOf, answerOf, ChecksSets, countedOf, Measures, Sizes, Prepares, Cuts, PreparesFields, CutsFields, ShowsGroups, RewritesLine, Decided, outcomeOf, Told};
 use checker::Verdict;
 use matchers::Spans;
 use reader::Answer;
+use sets::Checked;
 
 // Number 0 for an accepted pattern, else paper 01's number and place.
 #[repr(C)]
@@ -93,12 +96,38 @@ fn flag(is: bool) -> usize
     if is { 1 } else { 0 }
 }
 
+// A table that fails is 14.
+fn answer_of(x: Checked) -> Answer
+    ensures { λ r. ⌜ r ≡ answerOf x ⌝ }
+{
+    match x {
+        Checked::Usable => Answer::Accepted,
+        Checked::Faulty { place } => Answer::Refused { number: 14, place },
+    }
+}
+
+// Fills an array with the fixed table of named sets, from which a carrier's own can be made.
+#[no_mangle]
+pub extern "C" fn yindorka_fixed_sets(table: &mut [u8; 256])
+    ensures filled { λ _. ⌜ now (table .exit) ≡ setTable ⌝ }
+{
+    *table = sets::fixed();
+}
+
+// Checks a table of named sets: number 0 if it passes, else 14 and its lowest failing entry, or 256 if it has not 256 entries.
+#[no_mangle]
+pub extern "C" fn yindorka_check_sets(loaded: &[u8]) -> Refusal
+    ensures checked { λ r. ⌜ ChecksSets (now (loaded .entry)) r ⌝ }
+{
+    refusal_of(answer_of(sets::check(loaded)))
+}
+
 // How long a match of a pattern can be, each leaf counted as 1 whatever its set.
 #[no_mangle]
-pub extern "C" fn yindorka_lengths(pattern: &[u8]) -> Lengths
-    ensures measured { λ r. ⌜ Measures (now (pattern .entry)) r ⌝ }
+pub extern "C" fn yindorka_lengths_with_sets(loaded: &[u8], pattern: &[u8]) -> Lengths
+    ensures measured { λ r. ⌜ Measures (now (loaded .entry)) (now (pattern .entry)) r ⌝ }
 {
-    let reading = reader::read(pattern);
+    let reading = reader::read(loaded, pattern);
     let answer = reading.answer;
     let own = reading.lengths;
     let greatest = own.greatest;
@@ -121,12 +150,21 @@ pub extern "C" fn yindorka_lengths(pattern: &[u8]) -> Lengths
     }
 }
 
+// How long a match of a pattern can be, with the fixed table.
+#[no_mangle]
+pub extern "C" fn yindorka_lengths(pattern: &[u8]) -> Lengths
+    ensures measured { λ r. ⌜ Measures setTable (now (pattern .entry)) r ⌝ }
+{
+    let fixed = sets::fixed();
+    yindorka_lengths_with_sets(&fixed, pattern)
+}
+
 // How many bytes a record of a pattern has: as many slots its table has as that goes into its length.
 #[no_mangle]
-pub extern "C" fn yindorka_record_bytes(pattern: &[u8]) -> Counted
-    ensures sized { λ r. ⌜ Sizes (now (pattern .entry)) r ⌝ }
+pub extern "C" fn yindorka_record_bytes_with_sets(loaded: &[u8], pattern: &[u8]) -> Counted
+    ensures sized { λ r. ⌜ Sizes (now (loaded .entry)) (now (pattern .entry)) r ⌝ }
 {
-    let reading = reader::read(pattern);
+    let reading = reader::read(loaded, pattern);
     let answer = reading.answer;
     let leaves = reading.pattern.leaves;
     let Answer::Accepted = answer else {
@@ -135,7 +173,36 @@ pub extern "C" fn yindorka_record_bytes(pattern: &[u8]) -> Counted
     counted_of(answer, records::width(leaves))
 }
 
+// How many bytes a record of a pattern has, with the fixed table.
+#[no_mangle]
+pub extern "C" fn yindorka_record_bytes(pattern: &[u8]) -> Counted
+    ensures sized { λ r. ⌜ Sizes setTable (now (pattern .entry)) r ⌝ }
+{
+    let fixed = sets::fixed();
+    yindorka_record_bytes_with_sets(&fixed, pattern)
+}
+
 // Reads a pattern and fills its tables, which then serve any number of lines. A refused pattern leaves them as they are.
+#[no_mangle]
+pub extern "C" fn yindorka_prepare_with_sets(
+    loaded: &[u8],
+    pattern: &[u8],
+    masks: &mut [u64; 256],
+    rows: &mut [u8; 4225],
+    lens: &mut [u8; 65],
+    sets: &mut [u64; 65],
+    ends: &mut [u8; 65],
+    next: &mut [u64; 257],
+    hows: &mut [u8; 10],
+) -> Refusal
+    ensures prepared { λ r. ⌜ Prepares (now (loaded .entry)) (now (pattern .entry))
+        (tables (now (masks .entry)) (now (rows .entry)) (now (lens .entry)) (now (sets .entry)) (now (ends .entry)) (now (next .entry)) (now (hows .entry))) r
+        (tables (now (masks .exit)) (now (rows .exit)) (now (lens .exit)) (now (sets .exit)) (now (ends .exit)) (now (next .exit)) (now (hows .exit))) ⌝ }
+{
+    refusal_of(readings::prepare(loaded, pattern, masks, rows, lens, sets, ends, next, hows))
+}
+
+// Reads a pattern and fills its tables, with the fixed table of named sets.
 #[no_mangle]
 pub extern "C" fn yindorka_prepare(
     pattern: &[u8],
@@ -147,11 +214,12 @@ pub extern "C" fn yindorka_prepare(
     next: &mut [u64; 257],
     hows: &mut [u8; 10],
 ) -> Refusal
-    ensures prepared { λ r. ⌜ Prepares (now (pattern .entry))
+    ensures prepared { λ r. ⌜ Prepares setTable (now (pattern .entry))
         (tables (now (masks .entry)) (now (rows .entry)) (now (lens .entry)) (now (sets .entry)) (now (ends .entry)) (now (next .entry)) (now (hows .entry))) r
         (tables (now (masks .exit)) (now (rows .exit)) (now (lens .exit)) (now (sets .exit)) (now (ends .exit)) (now (next .exit)) (now (hows .exit))) ⌝ }
 {
-    refusal_of(readings::prepare(pattern, masks, rows, lens, sets, ends, next, hows))
+    let fixed = sets::fixed();
+    yindorka_prepare_with_sets(&fixed, pattern, masks, rows, lens, sets, ends, next, hows)
 }
 
 // Both spans of a line of any length: 1 and the start, the greedy end and the POSIX end, or 0.
@@ -185,6 +253,40 @@ pub extern "C" fn yindorka_cut<'a>(
 
 // Reads a pattern and fills its tables and the masks of its fields, which then serve any number of lines. A refused pattern leaves them as they are.
 #[no_mangle]
+pub extern "C" fn yindorka_prepare_fields_with_sets(
+    loaded: &[u8],
+    pattern: &[u8],
+    masks: &mut [u64; 256],
+    rows: &mut [u8; 4225],
+    lens: &mut [u8; 65],
+    sets: &mut [u64; 65],
+    ends: &mut [u8; 65],
+    next: &mut [u64; 257],
+    hows: &mut [u8; 10],
+    marks: &mut [u16; 4225],
+) -> Counted
+    ensures prepared { λ r. ⌜ PreparesFields (now (loaded .entry)) (now (pattern .entry))
+        (lent (tables (now (masks .entry)) (now (rows .entry)) (now (lens .entry)) (now (sets .entry)) (now (ends .entry)) (now (next .entry)) (now (hows .entry))) (now (marks .entry))) r
+        (lent (tables (now (masks .exit)) (now (rows .exit)) (now (lens .exit)) (now (sets .exit)) (now (ends .exit)) (now (next .exit)) (now (hows .exit))) (now (marks .exit))) ⌝ }
+{
+    let ready = fields::prepare(
+        loaded,
+        pattern,
+        masks,
+        rows,
+        lens,
+        sets,
+        ends,
+        next,
+        hows,
+        marks,
+    );
+    let answer = ready.answer;
+    counted_of(answer, ready.count)
+}
+
+// The same with the masks of its fields.
+#[no_mangle]
 pub extern "C" fn yindorka_prepare_fields(
     pattern: &[u8],
     masks: &mut [u64; 256],
@@ -196,13 +298,23 @@ pub extern "C" fn yindorka_prepare_fields(
     hows: &mut [u8; 10],
     marks: &mut [u16; 4225],
 ) -> Counted
-    ensures prepared { λ r. ⌜ PreparesFields (now (pattern .entry))
+    ensures prepared { λ r. ⌜ PreparesFields setTable (now (pattern .entry))
         (lent (tables (now (masks .entry)) (now (rows .entry)) (now (lens .entry)) (now (sets .entry)) (now (ends .entry)) (now (next .entry)) (now (hows .entry))) (now (marks .entry))) r
         (lent (tables (now (masks .exit)) (now (rows .exit)) (now (lens .exit)) (now (sets .exit)) (now (ends .exit)) (now (next .exit)) (now (hows .exit))) (now (marks .exit))) ⌝ }
 {
-    let ready = fields::prepare(pattern, masks, rows, lens, sets, ends, next, hows, marks);
-    let answer = ready.answer;
-    counted_of(answer, ready.count)
+    let fixed = sets::fixed();
+    yindorka_prepare_fields_with_sets(
+        &fixed,
+        pattern,
+        masks,
+        rows,
+        lens,
+        sets,
+        ends,
+        next,
+        hows,
+        marks,
+    )
 }
 
 // The greedy span of a line of any length with its fields: field f begins at places[f - 1] and ends at places[f + 7]. Without a span the places are kept.
@@ -243,24 +355,51 @@ pub extern "C" fn yindorka_cut_fields<'a>(
 
 // The byte groups of a pattern: the number of each byte's group, and the lowest byte of each group, with zeros after the last. A refused pattern leaves both as they are.
 #[no_mangle]
+pub extern "C" fn yindorka_groups_with_sets(
+    loaded: &[u8],
+    pattern: &[u8],
+    group: &mut [u8; 256],
+    lowest: &mut [u8; 256],
+) -> Counted
+    ensures shown { λ r. ⌜ ShowsGroups (now (loaded .entry)) (now (pattern .entry)) (now (group .entry)) (now (lowest .entry)) r (now (group .exit)) (now (lowest .exit)) ⌝ }
+{
+    let own = screen::groups(loaded, pattern, group, lowest);
+    let answer = own.answer;
+    counted_of(answer, own.count)
+}
+
+// The byte groups of a pattern, with the fixed table.
+#[no_mangle]
 pub extern "C" fn yindorka_groups(
     pattern: &[u8],
     group: &mut [u8; 256],
     lowest: &mut [u8; 256],
 ) -> Counted
-    ensures shown { λ r. ⌜ ShowsGroups (now (pattern .entry)) (now (group .entry)) (now (lowest .entry)) r (now (group .exit)) (now (lowest .exit)) ⌝ }
+    ensures shown { λ r. ⌜ ShowsGroups setTable (now (pattern .entry)) (now (group .entry)) (now (lowest .entry)) r (now (group .exit)) (now (lowest .exit)) ⌝ }
 {
-    let own = screen::groups(pattern, group, lowest);
-    let answer = own.answer;
-    counted_of(answer, own.count)
+    let fixed = sets::fixed();
+    yindorka_groups_with_sets(&fixed, pattern, group, lowest)
 }
 
 // Replaces each byte of a line by a printable byte of its group, where there is one. A refused pattern leaves the line as it is.
 #[no_mangle]
-pub extern "C" fn yindorka_readable(pattern: &[u8], line: &mut [u8]) -> Refusal
-    ensures replaced { λ r. ⌜ RewritesLine (now (pattern .entry)) (now (line .entry)) r (now (line .exit)) ⌝ }
+pub extern "C" fn yindorka_readable_with_sets(
+    loaded: &[u8],
+    pattern: &[u8],
+    line: &mut [u8],
+) -> Refusal
+    ensures replaced { λ r. ⌜ RewritesLine (now (loaded .entry)) (now (pattern .entry)) (now (line .entry)) r (now (line .exit)) ⌝ }
 {
-    refusal_of(screen::readable(pattern, line))
+    refusal_of(screen::readable(loaded, pattern, line))
+}
+
+// A line in readable bytes, with the fixed table.
+#[no_mangle]
+pub extern "C" fn yindorka_readable(pattern: &[u8], line: &mut [u8]) -> Refusal
+    ensures replaced { λ r. ⌜ RewritesLine setTable (now (pattern .entry)) (now (line .entry)) r (now (line .exit)) ⌝ }
+{
+    let fixed = sets::fixed();
+    yindorka_readable_with_sets(&fixed, pattern, line)
 }
 
 fn numbers_of(x: Verdict) -> Outcome
@@ -287,28 +426,44 @@ fn numbers_of(x: Verdict) -> Outcome
 
 // The checker's verdict, with what it writes to the table, to the witness buffer and to the area.
 #[no_mangle]
+pub extern "C" fn yindorka_check_with_sets(
+    loaded: &[u8],
+    pattern: &[u8],
+    table: &mut [u8],
+    witness: &mut [u8],
+    area: &mut [u8],
+) -> Outcome
+    ensures decided { λ r. ⌜ Decided (now (loaded .entry)) (now (pattern .entry)) (now (table .entry)) (now (witness .entry)) (now (area .entry)) r (now (table .exit)) (now (witness .exit)) (now (area .exit)) ⌝ }
+{
+    numbers_of(checker::check(loaded, pattern, table, witness, area))
+}
+
+// The checker's verdict, with the fixed table.
+#[no_mangle]
 pub extern "C" fn yindorka_check(
     pattern: &[u8],
     table: &mut [u8],
     witness: &mut [u8],
     area: &mut [u8],
 ) -> Outcome
-    ensures decided { λ r. ⌜ Decided (now (pattern .entry)) (now (table .entry)) (now (witness .entry)) (now (area .entry)) r (now (table .exit)) (now (witness .exit)) (now (area .exit)) ⌝ }
+    ensures decided { λ r. ⌜ Decided setTable (now (pattern .entry)) (now (table .entry)) (now (witness .entry)) (now (area .entry)) r (now (table .exit)) (now (witness .exit)) (now (area .exit)) ⌝ }
 {
-    numbers_of(checker::check(pattern, table, witness, area))
+    let fixed = sets::fixed();
+    yindorka_check_with_sets(&fixed, pattern, table, witness, area)
 }
 
 // The same, with how much looking through the records it took.
 #[no_mangle]
-pub extern "C" fn yindorka_check_looking(
+pub extern "C" fn yindorka_check_looking_with_sets(
+    loaded: &[u8],
     pattern: &[u8],
     table: &mut [u8],
     witness: &mut [u8],
     area: &mut [u8],
 ) -> Looking
-    ensures reported { λ r. ⌜ Told (now (pattern .entry)) (now (table .entry)) (now (witness .entry)) (now (area .entry)) r (now (table .exit)) (now (witness .exit)) (now (area .exit)) ⌝ }
+    ensures reported { λ r. ⌜ Told (now (loaded .entry)) (now (pattern .entry)) (now (table .entry)) (now (witness .entry)) (now (area .entry)) r (now (table .exit)) (now (witness .exit)) (now (area .exit)) ⌝ }
 {
-    let report = checker::check_looking(pattern, table, witness, area);
+    let report = checker::check_looking(loaded, pattern, table, witness, area);
     let looking = report.looking;
     let verdict = report.verdict;
     let outcome = numbers_of(verdict);
@@ -321,10 +476,24 @@ pub extern "C" fn yindorka_check_looking(
     }
 }
 
-// The version of the library: 10800 is 1.8.0.
+// The same, with how much looking through the records it took.
+#[no_mangle]
+pub extern "C" fn yindorka_check_looking(
+    pattern: &[u8],
+    table: &mut [u8],
+    witness: &mut [u8],
+    area: &mut [u8],
+) -> Looking
+    ensures reported { λ r. ⌜ Told setTable (now (pattern .entry)) (now (table .entry)) (now (witness .entry)) (now (area .entry)) r (now (table .exit)) (now (witness .exit)) (now (area .exit)) ⌝ }
+{
+    let fixed = sets::fixed();
+    yindorka_check_looking_with_sets(&fixed, pattern, table, witness, area)
+}
+
+// The version of the library: 10900 is 1.9.0.
 #[no_mangle]
 pub extern "C" fn yindorka_version() -> u32
-    ensures version { λ r. ⌜ r ≡ 10800 ⌝ }
+    ensures version { λ r. ⌜ r ≡ 10900 ⌝ }
 {
-    10800
+    10900
 }

@@ -24,7 +24,7 @@ returns-4 c =
     either
     (λ e. let k = rw e at l in rw e (k .0, k .1, omega (arith, k .2), k .3))
     (λ e. let k = rw e at l in rw e (k .0, k .1, omega (arith, k .2), k .3))
-    (a-report (c5 .before .before .before .args .asked) (c5 .match .keys4))
+    (a-report (c5 .before .before .before .before .args .asked) (c5 .match .keys4))
 
 pub answer-spec : {M : Type 1} → statement M
 answer-spec =

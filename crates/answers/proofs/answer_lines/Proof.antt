@@ -12,11 +12,11 @@ use Rattle.answers.proofs.answer_lines.Statement.{statement}
 use Rattle.answers.proofs.answer_lines.Tie as tie
 
 abbrev Inv-loop : tie.InvT-loop
-Inv-loop chunk line₀ out₀ table₀ witness₀ area₀ asked s₀ line out table witness area s =
-    Serving (Answer asked) chunk line₀ out₀ (buffers table₀ witness₀ area₀) s₀ line out (buffers table witness area) s
+Inv-loop loaded chunk line₀ out₀ table₀ witness₀ area₀ asked s₀ line out table witness area s =
+    Serving (Answer loaded asked) chunk line₀ out₀ (buffers table₀ witness₀ area₀) s₀ line out (buffers table witness area) s
 
 abbrev μ-loop : tie.MeasureT-loop
-μ-loop chunk line₀ out₀ table₀ witness₀ area₀ asked s₀ line out table witness area s = s .end - s .at
+μ-loop loaded chunk line₀ out₀ table₀ witness₀ area₀ asked s₀ line out table witness area s = s .end - s .at
 
 loop-holds : tie.Need-loop-holds Inv-loop μ-loop
 loop-holds c = serving-first
@@ -48,7 +48,7 @@ returns c =
     served (l .inv) (inr (leb-false (l .s .used + 20417) 65536 (sym (c .before .has-room .ensures) ∙ c .if2 .left)))
 
 returns-2 : tie.Need-returns-2 Inv-loop μ-loop
-returns-2 c = let l = c .before .before .loop in served (l .inv) (inl (at-its-end (c .before .before .before .args .chunk .now) (l .s) (omega arith)))
+returns-2 c = let l = c .before .before .loop in served (l .inv) (inl (at-its-end (c .before .before .before .before .args .chunk .now) (l .s) (omega arith)))
 
 pub answer-lines-spec : {M : Type 1} → statement M
 answer-lines-spec =

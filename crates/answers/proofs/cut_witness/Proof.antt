@@ -17,13 +17,13 @@ returns c =
     let x = c .before .before .before .before .before in
     let c9 = x .before .before .before .before in
     let u = c .unlike .ensures in
-    (u .0, uncut (no-spans (rw (x .before .first-of .ensures) at (x .cut-line .ensures)) (c .before .before .before .enum-told .given .1)) (u .1), omega (arith, u .2, length-take (c9 .args .length) (c9 .args .witness .now)), u .3)
+    (u .0, uncut (no-spans (rw (x .before .first-of .ensures) at (x .cut-line .ensures)) (c .before .before .before .enum-told .given .1)) (u .1), omega (arith, u .2, length-take (c9 .before .args .length) (c9 .before .args .witness .now)), u .3)
 
 returns-2 : tie.Need-returns-2
 returns-2 c =
     let c5 = c .before .before .before .before .before in
     let c14 = c5 .before .before .before .before .before .before .before .before .before in
-    let a = c14 .before .before .before .before .args in
+    let a = c14 .before .before .before .before .before .args in
     let u = c .explained .ensures in
     let all : take (c5 .before .before .least .result) (a .witness .now) ≡ take (a .length) (a .witness .now) = ap (λ k. take k (a .witness .now)) (c5 .before .before .least .ensures ∙ ap (min (a .length)) (c5 .before .before .before .length-of .ensures)) ∙ take-min (a .length) (a .witness .now) in
     (u .0, cut (both-spans (rw (c14 .before .first-of .ensures) at (c14 .cut-line .ensures)) (c5 .before .before .before .before .before .before .before .spans .given .1) (rw all at (c5 .make-readable .ensures)) (rw all at (u .1))), omega (arith, u .2, rewrites-length (c5 .make-readable .ensures .1), length-take (c5 .before .before .least .result) (a .witness .now)), u .3)

@@ -16,8 +16,8 @@ slice-aggregate-readable c = sym (length-take-le _ _ (omega arith))
 returns : tie.Need-returns
 returns c =
     let x = c .before .before .readable in
-    let a = c .before .before .before .before .before .before .args in
-    (x .result, subst (λ v. Rewrites (a .pattern .now) (take (a .n) (a .line .now)) (x .result) v) (sym (take-at _ _ (a .n) (rewrites-length (x .ensures) ∙ length-take-le (a .n) (a .line .now) (c .before .before .before .before .before .before .pre)))) (x .ensures))
+    let a = c .before .before .before .before .before .before .before .args in
+    (x .result, subst (λ v. Rewrites (a .loaded .now) (a .pattern .now) (take (a .n) (a .line .now)) (x .result) v) (sym (take-at _ _ (a .n) (rewrites-length (x .ensures) ∙ length-take-le (a .n) (a .line .now) (c .before .before .before .before .before .before .before .pre)))) (x .ensures))
 
 pub make-readable-spec : {M : Type 1} → statement M
 make-readable-spec =

@@ -9,8 +9,8 @@ returns : tie.Need-returns
 returns c =
     let c5 = c .before .before .before .before .before in
     let c8 = c5 .before .before .before in
-    let a = c8 .before .before .args in
-    finished (a .s .now) (a .codes .now) _ _ _ (c .masks-of .result) (a .len) (c8 .within .result) (c5 .number-leaves .result) (c8 .within .ensures .1) (c5 .number-leaves .ensures) (c .before .before .fill-sizes .ensures) (c .masks-of .ensures)
+    let a = c8 .before .before .before .args in
+    finished (a .loaded .now) (a .s .now) (a .codes .now) _ _ _ (c .masks-of .result) (a .len) (c8 .within .result) (c5 .number-leaves .result) (c8 .within .ensures .1) (c5 .number-leaves .ensures) (c .before .before .fill-sizes .ensures) (c .masks-of .ensures)
 
 pub finish-spec : {M : Type 1} → statement M
 finish-spec =

@@ -7,13 +7,13 @@ use Rattle.arrays.proofs.mark.Tie as tie
 
 returns : tie.Need-returns
 returns c =
-    let a = c .before .before .before .before .args in
-    marked-some (a .s .now) (a .q) (a .m) (a .b) (a .x) (c .union .result) (c .before .before .leaf-holds .result) (c .before .before .leaf-holds .ensures) (c .before .if1 .taken) (c .union .ensures)
+    let a = c .before .before .before .before .before .args in
+    marked-some (a .loaded .now) (a .s .now) (a .q) (a .m) (a .b) (a .x) (c .union .result) (c .before .before .leaf-holds .result) (c .before .before .leaf-holds .ensures) (c .before .if1 .taken) (c .union .ensures)
 
 returns-2 : tie.Need-returns-2
 returns-2 c =
-    let a = c .before .before .before .args in
-    marked-none (a .s .now) (a .q) (a .m) (a .b) (a .x) (c .before .leaf-holds .result) (c .before .leaf-holds .ensures) (c .if1 .left)
+    let a = c .before .before .before .before .args in
+    marked-none (a .loaded .now) (a .s .now) (a .q) (a .m) (a .b) (a .x) (c .before .leaf-holds .result) (c .before .leaf-holds .ensures) (c .if1 .left)
 
 pub mark-spec : {M : Type 1} → statement M
 mark-spec =

@@ -10,19 +10,19 @@ use Rattle.arrays.proofs.mark_all.Statement.{statement}
 use Rattle.arrays.proofs.mark_all.Tie as tie
 
 abbrev Inv-loop : tie.InvT-loop
-Inv-loop s q m masks₀ b₀ masks b = (b ≤ 256) × MarkedTo s q m b masks₀ masks
+Inv-loop loaded s q m masks₀ b₀ masks b = (b ≤ 256) × MarkedTo loaded s q m b masks₀ masks
 
 abbrev μ-loop : tie.MeasureT-loop
-μ-loop s q m masks₀ b₀ masks b = 256 - b
+μ-loop loaded s q m masks₀ b₀ masks b = 256 - b
 
 loop-holds : tie.Need-loop-holds Inv-loop μ-loop
-loop-holds c = (omega arith, marked-begin _ _ _ _ (c .before .pre))
+loop-holds c = (omega arith, marked-begin _ _ _ _ _ (c .before .before .pre))
 
 loop-again : tie.Need-loop-again Inv-loop μ-loop
 loop-again c =
-    let a = c .before .before .before .before .before .args in
+    let a = c .before .before .before .before .before .before .args in
     let p = c .before .before .before .loop in
-    (omega arith, marked-turn (a .s .now) (a .q) (a .m) (p .b) (c .mark .result) (a .masks .now) (p .masks) (omega arith) (p .inv .1) (c .mark .ensures))
+    (omega arith, marked-turn (a .loaded .now) (a .s .now) (a .q) (a .m) (p .b) (c .mark .result) (a .masks .now) (p .masks) (omega arith) (p .inv .1) (c .mark .ensures))
 
 returns : tie.Need-returns Inv-loop μ-loop
 returns c =

@@ -1,12 +1,19 @@
--- `ask::serve` meets its contract, whatever the word.
+-- `ask::serve` meets its contract, with the fixed table or a loaded one, of at most 512 entries.
 -- Assumes nothing.
 use borrow.Author.Needs.{needs}
-use Rattle.lines.proofs.Exchanging.{nothing-written}
+use native.Mathlib.Omega.{arith}
+use Rattle.ask.proofs.Entries.{few}
 use Rattle.ask.proofs.serve.Statement.{statement}
 use Rattle.ask.proofs.serve.Tie as tie
 
-returns-5 : tie.Need-returns-5
-returns-5 c = nothing-written (c .write-out .ensures)
+mul-end : tie.Need-mul-end
+mul-end c = omega (arith, few (c .from-hex .ensures))
+
+add-end : tie.Need-add-end
+add-end c = omega (arith, few (c .from-hex .ensures))
+
+add-serve-word : tie.Need-add-serve-word
+add-serve-word c = omega (arith, few (c .before .before .before .before .before .before .before .before .before .from-hex .ensures))
 
 pub serve-spec : {M : Type 1} → statement M
 serve-spec =
@@ -21,18 +28,14 @@ serve-spec =
     (λ c. search needs)
     (λ c κs. search needs)
     (λ c κs. search needs)
-    (λ c. search needs)
+    mul-end
+    add-end
     (λ c κs. search needs)
     (λ c. search needs)
     (λ c κs. search needs)
     (λ c κs. search needs)
     (λ c. search needs)
     (λ c κs. search needs)
-    (λ c. search needs)
+    add-serve-word
     (λ c κs. search needs)
-    (λ c κs. search needs)
-    (λ c. search needs)
-    (λ c. search needs)
-    (λ c κs. search needs)
-    (λ c κs. search needs)
-    returns-5)
+    (λ c. search needs))

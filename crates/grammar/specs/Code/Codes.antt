@@ -8,7 +8,7 @@ use lib.ListN.{drop, replicate}
 use lib.Dec.{eqb, ltb}
 use Rattle.theory.specs.Pattern.{Manner, eager, lazy}
 use Rattle.grammar.specs.Grammar.{Atom, byte, dot, class, group, Kind, ordinary, backslash, bar, opener, closer, bracket, brace, period, stray, sign, kind}
-use Rattle.grammar.specs.Sets.{inClass}
+use Rattle.grammar.specs.Sets.{inNamed, inClass}
 use Rattle.grammar.specs.Brackets.{maxFields}
 use Rattle.grammar.specs.Code.Reader.{Parsed, found, missing, readClass}
 use Rattle.grammar.specs.Code.Tokens.{Token, nil, both, or, many, blocks}
@@ -58,45 +58,45 @@ partKind (suc (suc (suc zero))) = aStar eager
 partKind (suc (suc (suc (suc zero)))) = aStar lazy
 partKind (suc (suc (suc (suc (suc q))))) = cond (ltb q maxFields) (aField (suc q)) (aLeaf (q - maxFields))
 
--- The set of a class that was found, of a byte after `\`, and of the leaf that the text begins with. What is no leaf holds nothing.
-abbrev pub foundHolds : Parsed Atom → ℕ → Bool
-foundHolds (found (byte x) r) b = false
-foundHolds (found dot r) b = false
-foundHolds (found (class c x l) r) b = inClass c (x ∷ l) b
-foundHolds (found (group t) r) b = false
-foundHolds missing b = false
+-- By the sets that are loaded: the set of a class that was found, of a byte after `\`, and of the leaf that the text begins with. What is no leaf holds nothing.
+abbrev pub foundHolds : List ℕ → Parsed Atom → ℕ → Bool
+foundHolds loaded (found (byte x) r) b = false
+foundHolds loaded (found dot r) b = false
+foundHolds loaded (found (class c x l) r) b = inClass (inNamed loaded) c (x ∷ l) b
+foundHolds loaded (found (group t) r) b = false
+foundHolds loaded missing b = false
 
 abbrev pub firstHolds : List ℕ → ℕ → Bool
 firstHolds [] b = false
 firstHolds (c ∷ s) b = eqb b c
 
-abbrev pub leafBy : Kind → ℕ → List ℕ → ℕ → Bool
-leafBy ordinary c s b = eqb b c
-leafBy backslash c s b = firstHolds s b
-leafBy bar c s b = false
-leafBy opener c s b = false
-leafBy closer c s b = false
-leafBy bracket c s b = foundHolds (readClass s) b
-leafBy brace c s b = false
-leafBy period c s b = not (eqb b 10)
-leafBy stray c s b = false
-leafBy (sign r) c s b = false
+abbrev pub leafBy : List ℕ → Kind → ℕ → List ℕ → ℕ → Bool
+leafBy loaded ordinary c s b = eqb b c
+leafBy loaded backslash c s b = firstHolds s b
+leafBy loaded bar c s b = false
+leafBy loaded opener c s b = false
+leafBy loaded closer c s b = false
+leafBy loaded bracket c s b = foundHolds loaded (readClass s) b
+leafBy loaded brace c s b = false
+leafBy loaded period c s b = not (eqb b 10)
+leafBy loaded stray c s b = false
+leafBy loaded (sign r) c s b = false
 
-unfoldable pub leafHolds : List ℕ → ℕ → Bool
-leafHolds [] b = false
-leafHolds (c ∷ s) b = leafBy (kind c) c s b
+unfoldable pub leafHolds : List ℕ → List ℕ → ℕ → Bool
+leafHolds loaded [] b = false
+leafHolds loaded (c ∷ s) b = leafBy loaded (kind c) c s b
 
 -- The token of a code, of the pattern p. Leaves are not numbered yet.
-abbrev pub tokenBy : List ℕ → PartKind → Token
-tokenBy p anEmpty = nil
-tokenBy p aSequence = both
-tokenBy p anAlternation = or
-tokenBy p (aStar how) = many how
-tokenBy p (aField f) = Tokens.field f
-tokenBy p (aLeaf q) = Tokens.byte 0 (λ b. ltb b 256 && leafHolds (drop q p) b)
+abbrev pub tokenBy : List ℕ → List ℕ → PartKind → Token
+tokenBy loaded p anEmpty = nil
+tokenBy loaded p aSequence = both
+tokenBy loaded p anAlternation = or
+tokenBy loaded p (aStar how) = many how
+tokenBy loaded p (aField f) = Tokens.field f
+tokenBy loaded p (aLeaf q) = Tokens.byte 0 (λ b. ltb b 256 && leafHolds loaded (drop q p) b)
 
-abbrev pub tokenOf : List ℕ → ℕ → Token
-tokenOf p c = tokenBy p (partKind c)
+abbrev pub tokenOf : List ℕ → List ℕ → ℕ → Token
+tokenOf loaded p c = tokenBy loaded p (partKind c)
 
 -- What repeats make of the codes k of a part. {m}: no copy is the empty sequence.
 abbrev pub exactlyCodes : ℕ → List ℕ → List ℕ

@@ -7,14 +7,14 @@ use borrow.Author.Needs.{needs}
 use Rattle.library_calls.proofs.lend.Statement.{statement}
 use Rattle.library_calls.proofs.lend.Tie as tie
 
-slice-aggregate-check : tie.Need-slice-aggregate-check
-slice-aggregate-check c = sym (length-take-le _ _ (omega arith))
-
 slice-aggregate-check-2 : tie.Need-slice-aggregate-check-2
 slice-aggregate-check-2 c = sym (length-take-le _ _ (omega arith))
 
 slice-aggregate-check-3 : tie.Need-slice-aggregate-check-3
 slice-aggregate-check-3 c = sym (length-take-le _ _ (omega arith))
+
+slice-aggregate-check-4 : tie.Need-slice-aggregate-check-4
+slice-aggregate-check-4 c = sym (length-take-le _ _ (omega arith))
 
 pub lend-spec : {M : Type 1} → statement M
 lend-spec =
@@ -22,11 +22,13 @@ lend-spec =
     (tie.spec
     (λ c κs. search needs)
     (λ c. search needs)
-    slice-aggregate-check
+    (λ c κs. search needs)
     (λ c. search needs)
     slice-aggregate-check-2
     (λ c. search needs)
     slice-aggregate-check-3
+    (λ c. search needs)
+    slice-aggregate-check-4
     (λ c κs. search needs)
     (λ c. search needs)
     (λ c. search needs)

@@ -5,9 +5,7 @@ use Rattle.orders.proofs.prepare_fields.Statement.{statement}
 use Rattle.orders.proofs.prepare_fields.Tie as tie
 
 returns : tie.Need-returns
-returns c =
-    let p = c .before .before .before .before .before .before .before .before .before in
-    rw (p .past-first .ensures, p .before .first-of .ensures) at (c .prepare .ensures)
+returns c = rw (c .before .before .before .before .before .before .before .before .before .pattern-after .ensures) at (c .prepare .ensures)
 
 pub prepare-fields-spec : {M : Type 1} → statement M
-prepare-fields-spec = tie.close (tie.spec (λ c κs. search needs) (λ c κs. search needs) (λ c κs. search needs) returns)
+prepare-fields-spec = tie.close (tie.spec (λ c κs. search needs) (λ c κs. search needs) returns)

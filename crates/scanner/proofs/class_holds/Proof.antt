@@ -10,7 +10,7 @@ returns : tie.Need-returns
 returns c = rw (rw (c .enum-told .given .1) at (c .before .before .class-at .ensures)) refl
 
 returns-2 : tie.Need-returns-2
-returns-2 c = class-holds (c .before .before .before .before .before .args .b) (rw (c .before .class .given .1) at (c .before .before .before .class-at .ensures))
+returns-2 c = class-holds (c .before .before .before .before .before .before .args .loaded .now) (c .before .before .before .before .before .before .args .b) (rw (c .before .class .given .1) at (c .before .before .before .class-at .ensures))
 
 pub class-holds-spec : {M : Type 1} → statement M
 class-holds-spec =

@@ -11,21 +11,21 @@ in-set-requires c κs = let n = rw (c .before .item3 .given .1) at (c .before .b
 returns : tie.Need-returns
 returns c =
     rw (c .either .ensures)
-    (take-single (c .before .before .before .before .before .before .args .b) (c .before .before .before .before .before .before .args .held) (rw (c .before .before .item .given .1) at (c .before .before .before .before .read-item .ensures)))
+    (take-single (c .before .before .before .before .before .before .before .args .loaded .now) (c .before .before .before .before .before .before .before .args .b) (c .before .before .before .before .before .before .before .args .held) (rw (c .before .before .item .given .1) at (c .before .before .before .before .read-item .ensures)))
 
 returns-2 : tie.Need-returns-2
 returns-2 c =
     let c3 = c .before .before .before in
     let c7 = c3 .before .before .before .before in
     rw (c .either2 .ensures, c .before .within .ensures)
-    (take-range (c7 .args .b) (c7 .args .held) (rw (c3 .item2 .given .1) at (c3 .before .before .read-item .ensures)))
+    (take-range (c7 .before .args .loaded .now) (c7 .before .args .b) (c7 .before .args .held) (rw (c3 .item2 .given .1) at (c3 .before .before .read-item .ensures)))
 
 returns-3 : tie.Need-returns-3
 returns-3 c =
     let c3 = c .before .before .before in
     let c7 = c3 .before .before .before .before in
     rw (c .either3 .ensures, c .before .in-set .ensures)
-    (take-named (c7 .args .b) (c7 .args .held) (rw (c3 .item3 .given .1) at (c3 .before .before .read-item .ensures)))
+    (take-named (c7 .before .args .loaded .now) (c7 .before .args .b) (c7 .before .args .held) (rw (c3 .item3 .given .1) at (c3 .before .before .read-item .ensures)))
 
 returns-4 : tie.Need-returns-4
 returns-4 c = rw (c .enum-told .given .1) at (c .before .before .read-item .ensures)

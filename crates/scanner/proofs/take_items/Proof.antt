@@ -14,12 +14,12 @@ use Rattle.scanner.proofs.take_items.Statement.{statement}
 use Rattle.scanner.proofs.take_items.Tie as tie
 
 abbrev Inv-loop : tie.InvT-loop
-Inv-loop s at b held i₀ holds₀ i holds = (r : Listed) → ItemsTaken s i b holds r → ItemsTaken s at b held r
+Inv-loop loaded s at b held i₀ holds₀ i holds = (r : Listed) → ItemsTaken loaded s i b holds r → ItemsTaken loaded s at b held r
 
 abbrev μ-loop : tie.MeasureT-loop
-μ-loop s at b held i₀ holds₀ i holds = length s - i
+μ-loop loaded s at b held i₀ holds₀ i holds = length s - i
 
-stood : (c : tie.In-loop Inv-loop μ-loop) → Here (c .before .before .before .args .s .now) (c .before .loop .i) (getD (c .before .before .before .args .s .now) (c .before .loop .i) 0)
+stood : (c : tie.In-loop Inv-loop μ-loop) → Here (c .before .before .before .before .args .s .now) (c .before .loop .i) (getD (c .before .before .before .before .args .s .now) (c .before .loop .i) 0)
 stood c = stands _ _ (c .loop-test .taken)
 
 loop-holds : tie.Need-loop-holds Inv-loop μ-loop
@@ -28,12 +28,12 @@ loop-holds c = λ r t. t
 returns : tie.Need-returns Inv-loop μ-loop
 returns c =
     let l = c .before .before .before .loop in
-    l .inv (Upto (l .i + 1) (l .holds)) (items-closed (c .before .before .before .before .before .args .b) (l .holds) (rw (c .if1 .taken) at (stood (c .before .before))))
+    l .inv (Upto (l .i + 1) (l .holds)) (items-closed (c .before .before .before .before .before .before .args .loaded .now) (c .before .before .before .before .before .before .args .b) (l .holds) (rw (c .if1 .taken) at (stood (c .before .before))))
 
 returns-2 : tie.Need-returns-2 Inv-loop μ-loop
 returns-2 c =
     let l = c .before .before .before .before .before .before .loop in
-    l .inv Faulty (items-fault (c .before .before .before .before .before .before .before .before .args .b) (l .holds) (stood (c .before .before .before .before .before)) (c .before .before .before .if1 .left) (rw (c .enum-told .given .1) at (c .before .before .take-item .ensures)))
+    l .inv Faulty (items-fault (c .before .before .before .before .before .before .before .before .before .args .loaded .now) (c .before .before .before .before .before .before .before .before .before .args .b) (l .holds) (stood (c .before .before .before .before .before)) (c .before .before .before .if1 .left) (rw (c .enum-told .given .1) at (c .before .before .take-item .ensures)))
 
 loop-less : tie.Need-loop-less Inv-loop μ-loop
 loop-less c = let o = (rw (c .before .item .given .1) at (c .before .before .before .take-item .ensures)) .3 in omega arith
@@ -44,12 +44,12 @@ loop-again c =
     let c6 = c3 .before .before .before in
     let l = c6 .before .loop in
     λ r t. l .inv r
-    (items-turn (c6 .before .before .before .args .b) (l .holds) (stood (c6)) (c3 .before .if1 .left) (rw (c .before .item .given .1) at (c3 .take-item .ensures)) r t)
+    (items-turn (c6 .before .before .before .before .args .loaded .now) (c6 .before .before .before .before .args .b) (l .holds) (stood (c6)) (c3 .before .if1 .left) (rw (c .before .item .given .1) at (c3 .take-item .ensures)) r t)
 
 returns-3 : tie.Need-returns-3 Inv-loop μ-loop
 returns-3 c =
-    let a = c .before .before .before .args in let l = c .before .loop in
-    l .inv Faulty (items-over (a .s .now) (l .i) (a .b) (l .holds) (c .loop-test .left))
+    let a = c .before .before .before .before .args in let l = c .before .loop in
+    l .inv Faulty (items-over (a .loaded .now) (a .s .now) (l .i) (a .b) (l .holds) (c .loop-test .left))
 
 pub take-items-spec : {M : Type 1} → statement M
 take-items-spec =

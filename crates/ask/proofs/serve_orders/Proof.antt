@@ -1,9 +1,9 @@
--- `ask::serve_fields` meets its contract: the pattern is refused, or the order lines are answered.
+-- `ask::serve_orders` meets its contract: the pattern is refused, or the order lines are answered.
 -- Assumes nothing.
 use borrow.Author.Needs.{needs}
 use Rattle.lines.proofs.Exchanging.{nothing-written}
-use Rattle.ask.proofs.serve_fields.Statement.{statement}
-use Rattle.ask.proofs.serve_fields.Tie as tie
+use Rattle.ask.proofs.serve_orders.Statement.{statement}
+use Rattle.ask.proofs.serve_orders.Tie as tie
 
 returns : tie.Need-returns
 returns c = c .run .ensures .used
@@ -11,8 +11,8 @@ returns c = c .run .ensures .used
 returns-2 : tie.Need-returns-2
 returns-2 c = nothing-written (c .write-out .ensures)
 
-pub serve-fields-spec : {M : Type 1} → statement M
-serve-fields-spec =
+pub serve-orders-spec : {M : Type 1} → statement M
+serve-orders-spec =
     tie.close
     (tie.spec
     (λ c κs. search needs)

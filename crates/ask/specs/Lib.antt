@@ -1,0 +1,2 @@
+-- A table of named sets in hex.
+pub mod Hex

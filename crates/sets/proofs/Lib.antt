@@ -1,0 +1,2 @@
+-- The checks of an entry in the turn in which they are made.
+mod Passing

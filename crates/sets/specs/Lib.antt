@@ -1,0 +1,2 @@
+-- What the check of a table says.
+pub mod Checks
