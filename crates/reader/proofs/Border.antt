@@ -18,7 +18,7 @@ use Rattle.grammar.specs.WriteOut.{shape, writeOut}
 use Rattle.grammar.specs.Before.{Before, start, text}
 use Rattle.grammar.specs.Refusals.{Fault, tooLong, wrong, tooHeavy, unopened}
 use Rattle.grammar.specs.Refusals as Due
-use Rattle.grammar.specs.Loaded.{Passes, Refuses, by-sets, by-pattern}
+use Rattle.grammar.specs.Loaded.{Passes, Fails, Refuses, by-sets, by-pattern}
 use Rattle.grammar.specs.Code.Codes.{tokenOf}
 use Rattle.grammar.proofs.Size.{weight-heaviest, leaves-64, nodes-within, number-nodes}
 use Rattle.grammar.proofs.Tokens.{tokens-length}
@@ -40,27 +40,12 @@ use Rattle.reader.specs.declared.Answer.{Answer}
 use Rattle.reader.specs.declared.Answer.the-variants.{Accepted}
 use Rattle.reader.specs.declared.Answer.the-variants as Answer
 use Rattle.reader.specs.declared.Brackets.{Brackets}
-use Rattle.reader.specs.declared.Reading.{Reading}
-use Rattle.reader.specs.Reading.{meaning as means, Beside, noBrackets, bracketsDue, Unread, ReadRight, accepted}
+use Rattle.reader.specs.declared.Text.{Text}
+use Rattle.reader.specs.Reading.{noBrackets, bracketsDue, WithinRead, fault, tree, TextRead, refusal, within, ReadRight, accepted}
 use Rattle.reader.specs.Steps.{andMore, Weighs, light, heavy, Alternated, AlternationRead, found-part, found-fault, answerBy, lengthsBy}
 use Rattle.grammar.proofs.Openings.{openings-count}
 use Rattle.reader.proofs.Passed.{all-brackets}
 use Rattle.reader.proofs.Begins.{byte-drop, drop-all}
-
--- A refusal with nothing beside it is right.
-pub read-refused : {loaded p : List ℕ} {n q : ℕ} {r : Reading} → Refuses loaded p n q → Unread (Answer.Refused n q) r → ReadRight loaded p r
-read-refused {loaded} {p} {n} {q} {r} f u =
-    record {
-      answer = Due.refused n q;
-      right = f;
-      means = ap (λ a. means a (r .pattern)) (u .answer);
-      beside = subst (λ a. Beside a (r .pattern)) (sym (u .answer)) (u .pattern);
-      counted = u .brackets;
-      measured = u .lengths;
-    }
-
-pub read-long : {loaded p : List ℕ} {r : Reading} → Passes loaded → 255 < length p → Unread (Answer.Refused 1 255) r → ReadRight loaded p r
-read-long sets h u = read-refused (by-pattern sets (tooLong h refl refl)) u
 
 -- The array before anything is written.
 pub holds-none : HoldsCodes (replicate 2815 0) 0 []
@@ -125,52 +110,59 @@ module _ {p a b : List ℕ} {n m e : ℕ} {c : Size} (short : length p ≤ 255) 
     pub found-lengths : c .weight ≤ 64 → meaning (c .lengths) ≡ lengths (t .t)
     found-lengths h = t .size .lengths ∙ counted-whole p (t .t) (found-tree h)
 
--- The answer is right: with nothing beside it where it is a refusal,
-module _ {loaded : List ℕ} (sets : Passes loaded) (p : List ℕ) (short : length p ≤ 255) (b : List ℕ) (m : ℕ) (g : Brackets) where
-  abbrev Begins : Part → Type 0
-  Begins part = AlternationRead p 0 0 (replicate 2815 0) 0 b m noBrackets g part
-
-  judged-fault : {part : Part} {n q : ℕ} → Begins part → answerBy (length p) part ≡ Answer.Refused n q → Fault p n q
-  judged-fault {n = n} {q = q} (found-fault {k = k} {q = j} f) e = let x : k ≡ n = cc in let y : j ≡ q = cc in subst (λ i. Fault p i q) x (subst (Fault p k) y f)
-  judged-fault {n = n} {q = q} (found-part {e = end} {c = c} t) e = go (ltb end (length p)) (ltb→lt end (length p)) (λ n. nltb→le end (length p) n) e
+-- The text is found to have a fault, or a tree.
+module _ (p : List ℕ) (short : length p ≤ 255) (b : List ℕ) (r : Text) where
+  pub read-within : {part : Part} → AlternationRead p 0 0 (replicate 2815 0) 0 b (r .len) noBrackets (r .brackets) part → r .answer ≡ answerBy (length p) part → meaning (r .lengths) ≡ lengthsBy part → WithinRead p b r
+  read-within (found-fault f) e long = fault f e
+  read-within (found-part {e = end} {c = c} t) e long = go (ltb end (length p)) (ltb→lt end (length p)) (λ n. nltb→le end (length p) n) e
     where
-      weigh : (d : Bool) → (T d → 64 < c .weight) → length p ≤ end → cond d (Answer.Refused 8 end) Accepted ≡ Answer.Refused n q → Fault p n q
-      weigh true a l e = let x : 8 ≡ n = cc in let y : end ≡ q = cc in subst (λ i. Fault p i q) x (subst (Fault p 8) y (found-heavy short t l (a tt)))
-      weigh false a l e = absurd (let z : _≡_ {A = ℕ} 0 1 = cc in omega arith)
+      weigh : (d : Bool) → (T d → 64 < c .weight) → (T (not d) → c .weight ≤ 64) → length p ≤ end → r .answer ≡ cond d (Answer.Refused 8 end) Accepted → WithinRead p b r
+      weigh true a l n e = fault (found-heavy short t n (a tt)) e
+      weigh false a l n e =
+          let h = l tt in
+          tree (found-tree short t n h) e (found-brackets short t n h) (long ∙ found-lengths short t n h) (found-written short t n h refl refl)
 
-      go : (d : Bool) → (T d → end < length p) → (T (not d) → length p ≤ end) → cond d (Answer.Refused 2 end) (cond (ltb 64 (c .weight)) (Answer.Refused 8 end) Accepted) ≡ Answer.Refused n q → Fault p n q
-      go true a l e = let x : 2 ≡ n = cc in let y : end ≡ q = cc in subst (λ i. Fault p i q) x (subst (Fault p 2) y (found-close short t (a tt)))
-      go false a l e = weigh (ltb 64 (c .weight)) (ltb→lt 64 (c .weight)) (l tt) e
+      go : (d : Bool) → (T d → end < length p) → (T (not d) → length p ≤ end) → r .answer ≡ cond d (Answer.Refused 2 end) (cond (ltb 64 (c .weight)) (Answer.Refused 8 end) Accepted) → WithinRead p b r
+      go true a l e = fault (found-close short t (a tt)) e
+      go false a l e = weigh (ltb 64 (c .weight)) (ltb→lt 64 (c .weight)) (λ n. nltb→le 64 (c .weight) n) (l tt) e
 
-  pub read-judged : {part : Part} {n q : ℕ} {r : Reading} → Begins part → answerBy (length p) part ≡ Answer.Refused n q → Unread (Answer.Refused n q) r → ReadRight loaded p r
-  read-judged f e u = read-refused (by-pattern sets (judged-fault f e)) u
+pub text-faulty : {loaded p b : List ℕ} {q : ℕ} {r : Text} → Fails loaded q → r .answer ≡ Answer.Refused 14 q → TextRead loaded p b r
+text-faulty f e = refusal (by-sets f) e
 
-  -- and with what was made for an accepted pattern.
-  pub read-accepted : {part : Part} (x : Pattern) (l : Lengths) → Begins part → answerBy (length p) part ≡ Accepted → Finished loaded p (take m b) x → meaning l ≡ lengthsBy part
-      → ReadRight loaded p (record { answer = Accepted; pattern = x; brackets = g; lengths = l })
-  read-accepted x l (found-fault f) e made long = absurd (let z : _≡_ {A = ℕ} 0 1 = cc in omega arith)
-  read-accepted x l (found-part {e = end} {c = c} t) e made long = go (ltb end (length p)) (λ n. nltb→le end (length p) n) e
-    where
-      accept : length p ≤ end → c .weight ≤ 64 → ReadRight loaded p (record { answer = Accepted; pattern = x; brackets = g; lengths = l })
-      accept n h =
-          let w = found-written short t n h refl refl loaded x made in
-          record {
-            answer = Due.accepted (t .t);
-            right = record { sets = sets; reads = found-tree short t n h };
-            means = ap accepted (w .decodes);
-            beside = subst (Arrays.HoldsPattern x) (sym (w .decodes)) w;
-            counted = found-brackets short t n h;
-            measured = long ∙ found-lengths short t n h;
-          }
+pub text-long : {loaded p b : List ℕ} {r : Text} → Passes loaded → 255 < length p → r .answer ≡ Answer.Refused 1 255 → TextRead loaded p b r
+text-long sets h e = refusal (by-pattern sets (tooLong h refl refl)) e
 
-      weigh : (d : Bool) → (T (not d) → c .weight ≤ 64) → length p ≤ end → cond d (Answer.Refused 8 end) Accepted ≡ Accepted → ReadRight loaded p (record { answer = Accepted; pattern = x; brackets = g; lengths = l })
-      weigh true a n e = absurd (let z : _≡_ {A = ℕ} 0 1 = cc in omega arith)
-      weigh false a n e = accept n (a tt)
+-- What is handed over is right: nothing beside a refusal,
+pub read-refused : {loaded p b : List ℕ} {x : Text} {n q : ℕ} (y : Pattern) (l : Lengths) → TextRead loaded p b x → x .answer ≡ Answer.Refused n q → y ≡ blank → meaning l ≡ noByte
+    → ReadRight loaded p (record { answer = Answer.Refused n q; pattern = y; brackets = noBrackets; lengths = l })
+read-refused {loaded} {p} {b} {x} {n} {q} y l f e blank long = go f
+  where
+    right : {m j : ℕ} → Refuses loaded p m j → x .answer ≡ Answer.Refused m j → ReadRight loaded p (record { answer = Answer.Refused n q; pattern = y; brackets = noBrackets; lengths = l })
+    right {m} {j} f d =
+        let i : m ≡ n = cc in
+        let k : j ≡ q = cc in
+        record { answer = Due.refused n q; right = subst (λ a. Refuses loaded p a q) i (subst (Refuses loaded p m) k f); means = refl; beside = blank; counted = refl; measured = long }
 
-      go : (d : Bool) → (T (not d) → length p ≤ end) → cond d (Answer.Refused 2 end) (cond (ltb 64 (c .weight)) (Answer.Refused 8 end) Accepted) ≡ Accepted
-          → ReadRight loaded p (record { answer = Accepted; pattern = x; brackets = g; lengths = l })
-      go true n e = absurd (let z : _≡_ {A = ℕ} 0 1 = cc in omega arith)
-      go false n e = weigh (ltb 64 (c .weight)) (λ k. nltb→le 64 (c .weight) k) (n tt) e
+    go : TextRead loaded p b x → ReadRight loaded p (record { answer = Answer.Refused n q; pattern = y; brackets = noBrackets; lengths = l })
+    go (refusal f d) = right f d
+    go (within sets (fault f d)) = right (by-pattern sets f) d
+    go (within sets (tree r d g h w)) = absurd (let z : _≡_ {A = ℕ} 0 1 = cc in omega arith)
+
+-- and what was made for an accepted pattern.
+pub read-accepted : {loaded p b : List ℕ} {x : Text} (y : Pattern) → TextRead loaded p b x → x .answer ≡ Accepted → Finished loaded p (take (x .len) b) y
+    → ReadRight loaded p (record { answer = Accepted; pattern = y; brackets = x .brackets; lengths = x .lengths })
+read-accepted y (refusal f d) e made = absurd (let z : _≡_ {A = ℕ} 0 1 = cc in omega arith)
+read-accepted y (within sets (fault f d)) e made = absurd (let z : _≡_ {A = ℕ} 0 1 = cc in omega arith)
+read-accepted {loaded} y (within sets (tree {t = t} r d g h w)) e made =
+    let holds = w loaded y made in
+    record {
+      answer = Due.accepted t;
+      right = record { sets = sets; reads = r };
+      means = ap accepted (holds .decodes);
+      beside = subst (Arrays.HoldsPattern y) (sym (holds .decodes)) holds;
+      counted = g;
+      measured = h;
+    }
 
 -- The answer by what was found.
 pub answer-refused : {k q : ℕ} (n : ℕ) (part : Part) → part ≡ Refused k q → Answer.Refused k q ≡ answerBy n part

@@ -4,20 +4,25 @@ use mathlib.Core.Path.{_≡_}
 use Prim.Native.Nat.{ℕ}
 use mathlib.Core.Bool.{cond}
 use mathlib.Core.List.{List}
+use lib.ListN.{take}
 use lib.Dec.{ltb}
 use Rattle.theory.specs.Pattern.{Re}
 use Rattle.grammar.specs.Brackets.{brackets, maxFields, ninth}
 use Rattle.grammar.specs.WriteOut.{writeOut}
-use Rattle.grammar.specs.Loaded.{Answers}
+use Rattle.grammar.specs.Grammar.{Alternation}
+use Rattle.grammar.specs.Limits.{Reads}
+use Rattle.grammar.specs.Refusals.{Fault}
+use Rattle.grammar.specs.Loaded.{Passes, Refuses, Answers}
 use Rattle.grammar.specs.Refusals as Due
 use Rattle.arrays.specs.declared.Pattern.{Pattern}
 use Rattle.arrays.specs.Decoded.{decode, blank}
-use Rattle.arrays.specs.Finished.{HoldsPattern}
+use Rattle.arrays.specs.Finished.{HoldsPattern, Finished}
 use Rattle.lengths.specs.Lengths.{Extent, noByte, lengths}
 use Rattle.lengths.specs.Code as Lengths
 use Rattle.reader.specs.declared.Answer.{Answer}
 use Rattle.reader.specs.declared.Answer.the-variants.{Accepted, Refused}
 use Rattle.reader.specs.declared.Brackets.{Brackets}
+use Rattle.reader.specs.declared.Text.{Text}
 use Rattle.reader.specs.declared.Reading.{Reading}
 
 -- The written-out pattern, or the refusal's number and place.
@@ -54,12 +59,17 @@ abbrev pub lengthsDue : Due.Answer → Extent
 lengthsDue (Due.accepted t) = lengths t
 lengthsDue (Due.refused n q) = noByte
 
--- What stands beside a refusal says nothing.
-pub record Unread (a : Answer) (r : Reading) : Type 0 where
-  pub answer : r .answer ≡ a
-  pub pattern : r .pattern ≡ blank
-  pub brackets : r .brackets ≡ noBrackets
-  pub lengths : Lengths.meaning (r .lengths) ≡ noByte
+-- What is found of the text p, whose codes the array b holds: its fault; or its tree, its brackets and its lengths, and arrays made of the codes are the written-out pattern,
+-- whatever table of named sets is loaded.
+pub data WithinRead (p b : List ℕ) (r : Text) : Type 0 where
+  fault : {n q : ℕ} → Fault p n q → r .answer ≡ Refused n q → WithinRead p b r
+  tree : {t : Alternation} → Reads p t → r .answer ≡ Accepted → r .brackets ≡ bracketsDue (Due.accepted t) → Lengths.meaning (r .lengths) ≡ lengths t
+      → ((loaded : List ℕ) (x : Pattern) → Finished loaded p (take (r .len) b) x → HoldsPattern x (writeOut loaded t)) → WithinRead p b r
+
+-- The same with a table that is checked first.
+pub data TextRead (loaded p b : List ℕ) (r : Text) : Type 0 where
+  refusal : {n q : ℕ} → Refuses loaded p n q → r .answer ≡ Refused n q → TextRead loaded p b r
+  within : Passes loaded → WithinRead p b r → TextRead loaded p b r
 
 -- The reader's answer is the one that is right, with the table that is loaded, and the arrays are the written-out pattern's, leaf sets included.
 pub record ReadRight (loaded p : List ℕ) (r : Reading) : Type 0 where

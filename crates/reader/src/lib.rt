@@ -4,13 +4,14 @@ ghost use mathlib.Core.Path.{_≡_};
 ghost use mathlib.Core.Logic.{_≢_};
 ghost use Prim.Native.Nat.{ℕ, _+_, _≤_, _<_, min, max};
 ghost use mathlib.Core.List.{List, [], _∷_};
-ghost use lib.ListN.{length, getD};
+ghost use lib.ListN.{length, getD, replicate};
 ghost use Rattle.grammar.specs.Limits.{maxBytes};
 ghost use Rattle.grammar.specs.Brackets.{maxFields};
-ghost use Rattle.grammar.specs.Loaded.{Passes};
+ghost use Rattle.grammar.specs.Code.Tokens.{maxParts};
 ghost use Rattle.grammar.specs.Code.Codes.{emptyKind, sequenceKind, firstField, firstLeaf};
+ghost use Rattle.reader.specs.declared.Answer.the-variants as Answer;
 ghost use Rattle.reader.specs.Steps.{isSpecial, aboveLimit, loadOf, Sized, signEnd, oneMore, Begun, Ready, AtomAt, AlternationRead, SequenceRead, AtomRead, LeafRead, RepeatRead, AddedIf, answerBy, lengthsBy};
-ghost use Rattle.reader.specs.Reading.{noBrackets, Unread, ReadRight};
+ghost use Rattle.reader.specs.Reading.{noBrackets, WithinRead, TextRead, ReadRight};
 ghost use Rattle.tokens.specs.Held.{Added};
 ghost use Rattle.lengths.specs.Lengths.{noByte, oneByte, inRow, oneOf, upTo, orMore};
 ghost use Rattle.lengths.specs.Code.{meaning, capped};
@@ -64,6 +65,14 @@ pub struct Walk {
     pub part: Part,
     pub len: usize,
     pub brackets: Brackets,
+}
+
+// The answer to a text, and of an accepted one how many codes the array holds, its brackets and its lengths.
+pub struct Text {
+    pub answer: Answer,
+    pub len: usize,
+    pub brackets: Brackets,
+    pub lengths: Lengths,
 }
 
 // The byte that begins a count.
@@ -522,57 +531,75 @@ fn lengths_of(part: Part) -> Lengths
 }
 
 // A refusal, with nothing beside it.
-fn unread(answer: Answer) -> Reading
-    ensures { λ r. ⌜ Unread answer r ⌝ }
+fn no_text(number: u8, place: usize) -> Text
+    ensures { λ r. ⌜ r .answer ≡ Answer.Refused number place ⌝ }
 {
-    let nothing = Pattern::empty();
-    Reading {
-        answer: answer,
-        pattern: nothing,
+    Text {
+        answer: Answer::Refused {
+            number: number,
+            place: place,
+        },
+        len: 0,
         brackets: no_brackets(),
         lengths: lengths::nothing(),
     }
 }
 
-// Reads a pattern of any bytes and any length, with a table of named sets that passes its checks.
-fn read_text(loaded: &[u8], s: &[u8]) -> Reading
-    requires { ⌜ Passes (now loaded) ⌝ }
-    ensures { λ r. ⌜ ReadRight (now (loaded .entry)) (now (s .entry)) r ⌝ }
+// Reads the text of a pattern of at most 255 bytes. Its codes go to the array, which has none yet.
+fn read_within(s: &[u8], a: &mut Codes) -> Text
+    requires { ⌜ (length (now s) ≤ maxBytes) × (now a ≡ replicate maxParts 0) ⌝ }
+    ensures { λ r. ⌜ WithinRead (now (s .entry)) (now (a .exit)) r ⌝ }
 {
-    if Pattern::MAX_BYTES < s.len() {
-        return unread(Answer::Refused {
-            number: 1,
-            place: Pattern::MAX_BYTES,
-        });
-    }
-    let mut codes = [0u16; Pattern::MAX_PARTS];
-    let whole = alternation(s, 0, 0, &mut codes, 0, no_brackets());
+    let whole = alternation(s, 0, 0, a, 0, no_brackets());
     let part = whole.part;
     let answer = judged(s, part);
-    let Answer::Accepted = answer else {
-        return unread(answer);
-    };
-    let n = whole.len;
     let brackets = whole.brackets;
-    let pattern = arrays::finish(loaded, s, &codes, n);
-    Reading {
+    Text {
         answer: answer,
-        pattern: pattern,
+        len: whole.len,
         brackets: brackets,
         lengths: lengths_of(part),
     }
 }
 
-// Reads a pattern of any bytes and any length. The table of named sets, of any length and content, is checked first: one that fails is 14.
+// The same for a pattern of any length and with a table of named sets of any length and content, which is checked first: one that fails is 14.
+fn read_text(loaded: &[u8], s: &[u8], a: &mut Codes) -> Text
+    requires { ⌜ now a ≡ replicate maxParts 0 ⌝ }
+    ensures { λ r. ⌜ TextRead (now (loaded .entry)) (now (s .entry)) (now (a .exit)) r ⌝ }
+{
+    let check = sets::check(loaded);
+    if let Checked::Faulty { place } = check {
+        return no_text(14, place);
+    }
+    if Pattern::MAX_BYTES < s.len() {
+        return no_text(1, Pattern::MAX_BYTES);
+    }
+    read_within(s, a)
+}
+
+// Reads a pattern of any bytes and any length, with a table of named sets of any length and content.
 pub fn read(loaded: &[u8], s: &[u8]) -> Reading
     ensures right { λ r. ⌜ ReadRight (now (loaded .entry)) (now (s .entry)) r ⌝ }
 {
-    let check = sets::check(loaded);
-    let Checked::Faulty { place } = check else {
-        return read_text(loaded, s);
+    let mut codes = [0u16; Pattern::MAX_PARTS];
+    let text = read_text(loaded, s, &mut codes);
+    let answer = text.answer;
+    let Answer::Accepted = answer else {
+        let nothing = Pattern::empty();
+        return Reading {
+            answer: answer,
+            pattern: nothing,
+            brackets: no_brackets(),
+            lengths: lengths::nothing(),
+        };
     };
-    unread(Answer::Refused {
-        number: 14,
-        place: place,
-    })
+    let brackets = text.brackets;
+    let own = text.lengths;
+    let pattern = arrays::finish(loaded, s, &codes, text.len);
+    Reading {
+        answer: answer,
+        pattern: pattern,
+        brackets: brackets,
+        lengths: own,
+    }
 }
