@@ -2,6 +2,7 @@
 // the highest bit: alpha, digit, alnum, upper, lower, xdigit, space, punct.
 ghost use mathlib.Core.Path.{_≡_};
 ghost use Prim.Native.Nat.{_<_};
+ghost use mathlib.Core.Bool.{not};
 ghost use Rattle.grammar.specs.Sets.{setTable, isOn};
 ghost use Rattle.grammar.specs.Loaded.{passes};
 ghost use Rattle.sets.specs.Checks.{Checks};
@@ -69,6 +70,16 @@ fn passes(entry: u8) -> bool
     !(punct && words::either(alnum, has(entry, SPACE)))
 }
 
+// Whether an entry fails. Most bytes are in no set, and then there is nothing to check.
+fn fails(entry: u8) -> bool
+    ensures { λ r. ⌜ r ≡ not (passes entry) ⌝ }
+{
+    if entry == 0 {
+        return false;
+    }
+    !passes(entry)
+}
+
 // Checks a table of any length and content.
 pub fn check(loaded: &[u8]) -> Checked
     ensures checked { λ r. ⌜ Checks (now (loaded .entry)) r ⌝ }
@@ -78,7 +89,7 @@ pub fn check(loaded: &[u8]) -> Checked
     }
     let mut b = 0;
     while b < ENTRIES {
-        if !passes(loaded[b]) {
+        if fails(loaded[b]) {
             return Checked::Faulty { place: b };
         }
         b += 1;

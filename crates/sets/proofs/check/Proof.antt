@@ -28,13 +28,13 @@ loop-holds c = (search needs, omega arith, λ k h. absurd (omega arith))
 returns-2 : tie.Need-returns-2 Inv-loop μ-loop
 returns-2 c =
     let l = c .before .before .before .before .loop in
-    at-entry {q = l .b} (l .inv .0) (omega arith) (seen (c .before .passes .ensures) (not-true _ (c .if2 .taken))) (l .inv .2)
+    at-entry {q = l .b} (l .inv .0) (omega arith) (not-true _ (seen (c .before .fails .ensures) (c .if2 .taken))) (l .inv .2)
 
 loop-again : tie.Need-loop-again Inv-loop μ-loop
 loop-again c =
     let a = c .before .before .before .before .before .before .before .args in
     let l = c .before .before .before .before .loop in
-    (l .inv .0, omega arith, below-more (λ k. passes (getD (a .loaded .now) k 0) ≡ true) (l .b) (l .inv .2) (seen (c .before .passes .ensures) (not-false _ (c .if2 .left))))
+    (l .inv .0, omega arith, below-more (λ k. passes (getD (a .loaded .now) k 0) ≡ true) (l .b) (l .inv .2) (not-false _ (seen (c .before .fails .ensures) (c .if2 .left))))
 
 returns-3 : tie.Need-returns-3 Inv-loop μ-loop
 returns-3 c =
