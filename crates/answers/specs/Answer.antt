@@ -35,8 +35,8 @@ buffers t v s = record { table = t; witness = v; area = s }
 abbrev pub Lends : Buffers → Type 0
 Lends x = (length (x .table) ≡ 65536) × (length (x .witness) ≡ 5041) × (length (x .area) ≡ areaBytes)
 
--- The text w is the line of the verdict that the papers give for the pattern p with the named sets that are loaded, with the spans of the witness and its readable form if they are asked for. The buffers,
--- which held x, hold y then.
+-- The text w is the line of the verdict that the papers give for the pattern p with the named sets that are loaded, with the spans of the witness and its readable form if they
+-- are asked for. The buffers, which held x, hold y then.
 pub record Judged (loaded : List ℕ) (spans : Bool) (x : Buffers) (p w : List ℕ) (y : Buffers) : Type 0 where
   pub lent : Lends x
   pub verdict : Verdict

@@ -1,2 +1,3 @@
--- A table of named sets in hex.
+-- A table of named sets in hex, and its line.
 pub mod Hex
+pub mod Table

@@ -7,12 +7,13 @@
 // 'details' on a line of its own: the same, and before it how long a match of the pattern can be (request 6), unless it is refused: 'least 1 greatest 2 looks 9 ..', or
 // 'least 1 no limit looks 9 ..'.
 // 'table' on a line of its own: the table of named sets that is loaded, in hex, or its refusal. Nothing more is read.
-// Before the word 'sets ', a table of named sets in lower-case hex and a space may stand: the table is loaded in place of the fixed one (request 9).
+// Before each of these may stand 'sets ', a table of named sets in lower-case hex, and a space: that table is loaded in place of the fixed one (request 9).
 // Another word prints 'unknown'. Lines may have any length; input and output go by chunks, so memory stays the same. What is known is printed before more is read.
 // A failed read or write ends the program with a line on standard error.
 ghost use mathlib.Core.Path.{_≡_};
 ghost use mathlib.Core.Bool.{true};
 ghost use Rattle.ask.specs.Hex.{isHex, hexValue, FromHex};
+ghost use Rattle.ask.specs.Table.{TableLine};
 use answers::Asked;
 use lines::KEPT;
 use lines::SIZE;
@@ -34,6 +35,7 @@ fn is_hex(b: u8) -> bool
     }
 }
 
+// What it counts.
 fn value(b: u8) -> u8
     requires { ⌜ isHex b ≡ true ⌝ }
     ensures { λ r. ⌜ r ≡ hexValue b ⌝ }
@@ -214,8 +216,10 @@ fn unknown(out: &mut [u8; SIZE], first: State) -> State
     lines::write_out(out, s)
 }
 
-// Appends the table to the output, which holds nothing, or the refusal of one that fails.
-fn table_line(loaded: &[u8], out: &mut [u8; SIZE]) -> usize {
+// Puts the table at the start of the output, or the refusal of one that fails.
+fn table_line(loaded: &[u8], out: &mut [u8; SIZE]) -> usize
+    ensures { λ r. ⌜ TableLine (now (loaded .entry)) (now (out .entry)) (now (out .exit)) r ⌝ }
+{
     let check = sets::check(loaded);
     let Checked::Faulty { place } = check else {
         return printing::bytes(out, 0, loaded);

@@ -20,8 +20,8 @@ use Rattle.checker.specs.Verdicts.{Checks}
 abbrev pub noLooking : Looking
 noLooking = record { looks = 0; comparisons = 0 }
 
--- For the pattern p with the named sets that are loaded, the table t and the area s. "A refused pattern goes no further than the reader", and no record is looked for where the area is too short or the
--- test passes. Else it is what the search takes with the table's slots.
+-- For the pattern p with the named sets that are loaded, the table t and the area s. "A refused pattern goes no further than the reader", and no record is looked for where
+-- the area is too short or the test passes. Else it is what the search takes with the table's slots.
 pub data LooksFor (loaded p t s : List ℕ) : Looking → Type 0 where
   unread : {n q : ℕ} → Refuses loaded p n q → LooksFor loaded p t s noLooking
   unsearched : {a : Alternation} → Accepts loaded p a → (length s < areaBytes) ⊎ NoneExtends (writeOut loaded a) → LooksFor loaded p t s noLooking

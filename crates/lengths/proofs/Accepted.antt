@@ -62,7 +62,7 @@ module _ (loaded p : List ℕ) (t : Alternation) (a : Reads p t) where
     pub longer-lines : lengths t .greatest ≡ noLimit → (k : ℕ) → (w : List ℕ) × (j : ℕ) × Below 256 w × (k < j) × (posix (writeOut loaded t) w ≡ span 0 j)
     longer-lines e k = let m = reached e k in (m .line, length (m .line), m .bytes, m .size, posix-whole (writeOut loaded t) (m .line) (m .whole))
 
--- No number is above the weight's limit.
+-- No number is above the weight's limit. That does not depend on the table, so any will do.
 module _ (p : List ℕ) (t : Alternation) (a : Reads p t) where
   pub least-64 : lengths t .least ≤ 64
   least-64 = omega (arith, ap (λ x. x .least) (written [] p t a), least-count (writeOut [] t), leaves-64 [] p t a)
