@@ -1,3 +1,3 @@
--- A table of named sets in hex, and its line.
-pub mod Hex
+-- What is prepared for order lines, and the line of a table of named sets.
+pub mod Orders
 pub mod Table

@@ -11,66 +11,19 @@
 // Another word prints 'unknown'. Lines may have any length; input and output go by chunks, so memory stays the same. What is known is printed before more is read.
 // A failed read or write ends the program with a line on standard error.
 ghost use mathlib.Core.Path.{_≡_};
-ghost use mathlib.Core.Bool.{true};
-ghost use Rattle.ask.specs.Hex.{isHex, hexValue, FromHex};
+ghost use lib.ListN.{take, drop};
+ghost use Rattle.matchers.specs.Tables.{tables};
+ghost use Rattle.fields.specs.Cuts.{lent};
+ghost use Rattle.ask.specs.Orders.{PreparedAs};
 ghost use Rattle.ask.specs.Table.{TableLine};
 use answers::Asked;
 use lines::KEPT;
 use lines::SIZE;
 use lines::State;
+use queries::Loading;
+use queries::Query;
 use reader::Answer;
 use sets::Checked;
-
-// No line that is kept has more entries in hex.
-const ENTRIES: usize = 512;
-
-// A hex digit: 0 to 9 or a to f.
-fn is_hex(b: u8) -> bool
-    ensures { λ r. ⌜ r ≡ isHex b ⌝ }
-{
-    match b {
-        b'0'..=b'9' => true,
-        b'a'..=b'f' => true,
-        _ => false,
-    }
-}
-
-// What it counts.
-fn value(b: u8) -> u8
-    requires { ⌜ isHex b ≡ true ⌝ }
-    ensures { λ r. ⌜ r ≡ hexValue b ⌝ }
-{
-    if b <= b'9' {
-        return b - b'0';
-    }
-    b - b'a' + 10
-}
-
-// The entries that a text begins with: how many.
-fn from_hex(text: &[u8], table: &mut [u8; ENTRIES]) -> usize
-    ensures { λ r. ⌜ FromHex (now (text .entry)) (now (table .exit)) r ⌝ }
-{
-    let end = words::length_of(table);
-    let mut n = 0;
-    let mut i = 1;
-    while i < text.len() && n < end {
-        if !is_hex(text[i - 1]) {
-            return n;
-        }
-        if !is_hex(text[i]) {
-            return n;
-        }
-        table[n] = 16 * value(text[i - 1]) + value(text[i]);
-        n += 1;
-        i += 2;
-    }
-    n
-}
-
-// The first n entries of a table.
-fn first_entries(table: &[u8; ENTRIES], n: usize) -> &[u8] {
-    lines::first_of(table, n)
-}
 
 // Prepares the pattern after the first `skip` bytes of the line, for its fields or for both spans.
 fn prepare(
@@ -87,7 +40,11 @@ fn prepare(
     next: &mut [u64; 257],
     hows: &mut [u8; 10],
     marks: &mut [u16; 4225],
-) -> fields::Prepared {
+) -> fields::Prepared
+    ensures { λ r. ⌜ PreparedAs brackets (now (loaded .entry)) (drop skip (take (first .n) (now (line .entry))))
+        (lent (tables (now (masks .entry)) (now (rows .entry)) (now (lens .entry)) (now (sets .entry)) (now (ends .entry)) (now (next .entry)) (now (hows .entry))) (now (marks .entry))) r
+        (lent (tables (now (masks .exit)) (now (rows .exit)) (now (lens .exit)) (now (sets .exit)) (now (ends .exit)) (now (next .exit)) (now (hows .exit))) (now (marks .exit))) ⌝ }
+{
     if brackets {
         return orders::prepare_fields(
             loaded,
@@ -236,14 +193,8 @@ fn serve_table(loaded: &[u8], out: &mut [u8; SIZE], first: State) -> State
     lines::write_out(out, s)
 }
 
-// Whether the first line goes on with the word at a place, and ends there.
-fn is_word<'a>(line: &'a [u8; KEPT], first: State, at: usize, word: &'a [u8]) -> bool {
-    let rest = lines::past_first(lines::first_of(line, first.n), at);
-    rest.len() == word.len() && lines::begins_with(rest, word)
-}
-
-// The word at a place of the first line decides.
-fn serve_word(
+// Answers what is asked by the word at a place of the first line, with the table that is loaded.
+fn serve_query(
     loaded: &[u8],
     chunk: &mut [u8; SIZE],
     line: &mut [u8; KEPT],
@@ -253,44 +204,41 @@ fn serve_word(
 ) -> State
     ensures { λ r. ⌜ r .used ≡ 0 ⌝ }
 {
-    let rest = lines::past_first(lines::first_of(line, first.n), at);
-    if lines::begins_with(rest, b"spans ") {
-        return serve_orders(loaded, chunk, line, out, at + 6, false, first);
+    let query = queries::query_at(lines::first_of(line, first.n), at);
+    match query {
+        Query::Spans { at } => serve_orders(loaded, chunk, line, out, at, false, first),
+        Query::Fields { at } => serve_orders(loaded, chunk, line, out, at, true, first),
+        Query::Groups => serve_patterns(loaded, chunk, line, out, Asked::Groups, first),
+        Query::Looking => serve_patterns(loaded, chunk, line, out, Asked::Looking, first),
+        Query::Details => serve_patterns(loaded, chunk, line, out, Asked::Details, first),
+        Query::Table => serve_table(loaded, out, first),
+        Query::Unknown => unknown(out, first),
     }
-    if lines::begins_with(rest, b"fields ") {
-        return serve_orders(loaded, chunk, line, out, at + 7, true, first);
-    }
-    if is_word(line, first, at, b"groups") {
-        return serve_patterns(loaded, chunk, line, out, Asked::Groups, first);
-    }
-    if is_word(line, first, at, b"looking") {
-        return serve_patterns(loaded, chunk, line, out, Asked::Looking, first);
-    }
-    if is_word(line, first, at, b"details") {
-        return serve_patterns(loaded, chunk, line, out, Asked::Details, first);
-    }
-    if is_word(line, first, at, b"table") {
-        return serve_table(loaded, out, first);
-    }
-    unknown(out, first)
+}
+
+// The first n entries of a table.
+fn first_entries(table: &[u8; queries::ENTRIES], n: usize) -> &[u8]
+    ensures { λ r. ⌜ now r ≡ take n (now (table .entry)) ⌝ }
+{
+    lines::first_of(table, n)
 }
 
 // With the table of named sets that the first line begins with, or the fixed one.
 fn serve(chunk: &mut [u8; SIZE], line: &mut [u8; KEPT], out: &mut [u8; SIZE], first: State) -> State
     ensures { λ r. ⌜ r .used ≡ 0 ⌝ }
 {
-    let text = lines::first_of(line, first.n);
-    if !lines::begins_with(text, b"sets ") {
-        let fixed = sets::fixed();
-        return serve_word(&fixed, chunk, line, out, 0, first);
+    let mut table = [0u8; queries::ENTRIES];
+    let loading = queries::load(lines::first_of(line, first.n), &mut table);
+    match loading {
+        Loading::Fixed => {
+            let fixed = sets::fixed();
+            serve_query(&fixed, chunk, line, out, 0, first)
+        }
+        Loading::Own { entries, at } => {
+            serve_query(first_entries(&table, entries), chunk, line, out, at, first)
+        }
+        Loading::Broken => unknown(out, first),
     }
-    let mut table = [0u8; ENTRIES];
-    let n = from_hex(lines::past_first(text, 5), &mut table);
-    let end = 5 + 2 * n;
-    if !lines::begins_with(lines::past_first(text, end), b" ") {
-        return unknown(out, first);
-    }
-    serve_word(first_entries(&table, n), chunk, line, out, end + 1, first)
 }
 
 fn main() {

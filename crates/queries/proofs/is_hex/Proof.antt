@@ -1,9 +1,9 @@
--- `ask::is_hex` meets its contract: each span of bytes is of digits, or has none.
+-- `queries::is_hex` meets its contract: each span of bytes is of digits, or has none.
 -- Assumes nothing.
 use native.Mathlib.Omega.{arith}
-use Rattle.ask.proofs.Digits.{digit, letter, before-digits, between, after-letters}
-use Rattle.ask.proofs.is_hex.Statement.{statement}
-use Rattle.ask.proofs.is_hex.Tie as tie
+use Rattle.queries.proofs.Digits.{digit, letter, before-digits, between, after-letters}
+use Rattle.queries.proofs.is_hex.Statement.{statement}
+use Rattle.queries.proofs.is_hex.Tie as tie
 
 returns : tie.Need-returns
 returns c = digit (c .before .before .args .b) (omega arith) (omega arith)

@@ -1,9 +1,9 @@
--- `ask::value` meets its contract: a digit is one of 0 to 9, or of a to f.
+-- `queries::value` meets its contract: a digit is one of 0 to 9, or of a to f.
 -- Assumes nothing.
 use borrow.Author.Needs.{needs}
-use Rattle.ask.proofs.Digits.{from-zero, from-a, digit-value, letter-value}
-use Rattle.ask.proofs.value.Statement.{statement}
-use Rattle.ask.proofs.value.Tie as tie
+use Rattle.queries.proofs.Digits.{from-zero, from-a, digit-value, letter-value}
+use Rattle.queries.proofs.value.Statement.{statement}
+use Rattle.queries.proofs.value.Tie as tie
 
 sub-result : tie.Need-sub-result
 sub-result c = from-zero (c .before .args .b) (c .before .pre) (c .if1 .taken)

@@ -7,7 +7,7 @@ use native.Mathlib.Omega.{arith}
 use lib.Dec.{leb}
 use borrow.Author.Tests.{le-leb, lt-leb, leb-true, leb-false}
 use Rattle.grammar.specs.Sets.{spans}
-use Rattle.ask.specs.Hex.{isHex, hexValue}
+use Rattle.queries.specs.Hex.{isHex, hexValue}
 
 -- Where a byte is within a span, and where it is not.
 within : (low high b : ℕ) → low ≤ b → b ≤ high → spans low high b ≡ true

@@ -8,7 +8,7 @@ use native.Mathlib.Omega.{arith}
 use native.Mathlib.Numerals.{add-one}
 use lib.ListN.{length, take, drop, getD, set, length-take, length-drop}
 use lib.Seq.{drop-cons, take-suc-set, length-take-le, take-nil}
-use Rattle.ask.specs.Hex.{isHex, hexValue, unhex, FromHex}
+use Rattle.queries.specs.Hex.{isHex, hexValue, unhex, FromHex}
 
 -- A table holds the first n entries, and the text from the place before i on has the rest.
 abbrev pub Filled : List ℕ → List ℕ → ℕ → ℕ → Type 0

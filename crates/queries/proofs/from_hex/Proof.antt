@@ -1,4 +1,4 @@
--- `ask::from_hex` meets its contract. The invariant: the table holds the first n entries, and the text from the place before i on has the rest. The measure is the digits left.
+-- `queries::from_hex` meets its contract. The invariant: the table holds the first n entries, and the text from the place before i on has the rest. The measure is the digits left.
 -- Assumes nothing.
 use borrow.Author.Needs.{needs}
 use native.Mathlib.Omega.{arith}
@@ -8,11 +8,11 @@ use mathlib.Core.List.{List}
 use Prim.Native.Nat.{ℕ, _≤_, _<_, _+_, _*_, _-_}
 use lib.ListN.{length, getD, length-set}
 use borrow.Author.Tests.{ltb-true, ltb-false, not-true, not-false}
-use Rattle.ask.specs.Hex.{isHex}
-use Rattle.ask.proofs.Digits.{at-most-15}
-use Rattle.ask.proofs.Entries.{Filled, unfilled, fill-one, no-pair, no-first, no-second, full, no-more}
-use Rattle.ask.proofs.from_hex.Statement.{statement}
-use Rattle.ask.proofs.from_hex.Tie as tie
+use Rattle.queries.specs.Hex.{isHex}
+use Rattle.queries.proofs.Digits.{at-most-15}
+use Rattle.queries.proofs.Entries.{Filled, unfilled, fill-one, no-pair, no-first, no-second, full, no-more}
+use Rattle.queries.proofs.from_hex.Statement.{statement}
+use Rattle.queries.proofs.from_hex.Tie as tie
 
 abbrev Inv-loop : tie.InvT-loop
 Inv-loop text table₀ end n₀ i₀ table n i = (0 < i) × (n ≤ 512) × (length table ≡ 512) × Filled text table n i
