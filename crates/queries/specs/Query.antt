@@ -44,16 +44,21 @@ detailsWord = 100 ∷ 101 ∷ 116 ∷ 97 ∷ 105 ∷ 108 ∷ 115 ∷ []
 abbrev pub tableWord : List ℕ
 tableWord = 116 ∷ 97 ∷ 98 ∷ 108 ∷ 101 ∷ []
 
--- What is asked by the text s, which stands at a place of the line. After 'spans ' and 'fields ' comes a pattern, and its place is told; the other words end the line.
+-- What is asked by a word that ends the line.
+abbrev pub wordOf : List ℕ → Query
+wordOf s =
+    cond (isWord s groupsWord) Groups
+    (cond (isWord s lookingWord) Looking
+    (cond (isWord s detailsWord) Details
+    (cond (isWord s tableWord) Table
+    Unknown)))
+
+-- What is asked by the text s, which stands at a place of the line: after 'spans ' and 'fields ' comes a pattern, and its place is told.
 abbrev pub queryOf : List ℕ → ℕ → Query
 queryOf s at =
     cond (starts s spansWord) (Spans (at + 6))
     (cond (starts s fieldsWord) (Fields (at + 7))
-    (cond (isWord s groupsWord) Groups
-    (cond (isWord s lookingWord) Looking
-    (cond (isWord s detailsWord) Details
-    (cond (isWord s tableWord) Table
-    Unknown)))))
+    (wordOf s))
 
 -- The entries in hex after 'sets ': of so many an array of 512 bytes has room for each.
 abbrev pub ownEntries : List ℕ → List ℕ

@@ -4,7 +4,7 @@ ghost use mathlib.Core.Path.{_≡_};
 ghost use mathlib.Core.Bool.{true};
 ghost use lib.ListN.{drop};
 ghost use Rattle.queries.specs.Hex.{isHex, hexValue, FromHex};
-ghost use Rattle.queries.specs.Query.{starts, isWord, queryOf, Loads};
+ghost use Rattle.queries.specs.Query.{starts, isWord, wordOf, queryOf, Loads};
 
 // No line that is kept has more entries in hex.
 pub const ENTRIES: usize = 512;
@@ -110,16 +110,10 @@ pub fn load(text: &[u8], table: &mut [u8; ENTRIES]) -> Loading
     }
 }
 
-// What is asked by the word at a place.
-pub fn query_at(text: &[u8], at: usize) -> Query
-    ensures query { λ r. ⌜ r ≡ queryOf (drop at (now (text .entry))) at ⌝ }
+// What is asked by the word at a place that ends the line.
+fn word_at(text: &[u8], at: usize) -> Query
+    ensures { λ r. ⌜ r ≡ wordOf (drop at (now (text .entry))) ⌝ }
 {
-    if starts_at(text, at, b"spans ") {
-        return Query::Spans { at: at + 6 };
-    }
-    if starts_at(text, at, b"fields ") {
-        return Query::Fields { at: at + 7 };
-    }
     if is_word(text, at, b"groups") {
         return Query::Groups;
     }
@@ -133,4 +127,17 @@ pub fn query_at(text: &[u8], at: usize) -> Query
         return Query::Table;
     }
     Query::Unknown
+}
+
+// What is asked by the word at a place.
+pub fn query_at(text: &[u8], at: usize) -> Query
+    ensures query { λ r. ⌜ r ≡ queryOf (drop at (now (text .entry))) at ⌝ }
+{
+    if starts_at(text, at, b"spans ") {
+        return Query::Spans { at: at + 6 };
+    }
+    if starts_at(text, at, b"fields ") {
+        return Query::Fields { at: at + 7 };
+    }
+    word_at(text, at)
 }
