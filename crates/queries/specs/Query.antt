@@ -60,11 +60,11 @@ queryOf s at =
     (cond (starts s fieldsWord) (Fields (at + 7))
     (wordOf s))
 
--- The entries in hex after 'sets ': of so many an array of 512 bytes has room for each.
+-- The entries in hex after 'sets ', as many as an array of 512 bytes has room for.
 abbrev pub ownEntries : List ℕ → List ℕ
 ownEntries s = take 512 (unhex (drop 5 s))
 
--- With n entries: a space must follow them, and then the word.
+-- With n entries: a space follows them, and then the word; else it is no table.
 abbrev pub ownOf : List ℕ → ℕ → Loading
 ownOf s n = cond (starts (drop (5 + 2 * n) s) (32 ∷ [])) (Own n (6 + 2 * n)) Broken
 
@@ -72,7 +72,7 @@ ownOf s n = cond (starts (drop (5 + 2 * n) s) (32 ∷ [])) (Own n (6 + 2 * n)) B
 abbrev pub loadingOf : List ℕ → Loading
 loadingOf s = cond (starts s setsWord) (ownOf s (length (ownEntries s))) Fixed
 
--- An array begins with its entries; that of a line which loads none may hold anything.
+-- The array begins with the table's entries. Where the line has no table of its own it may hold anything.
 abbrev pub Holds : List ℕ → List ℕ → Loading → Type 0
 Holds s new Fixed = Unit {0}
 Holds s new (Own n at) = take n new ≡ ownEntries s
