@@ -1,5 +1,7 @@
 // What the programs print for a pattern, with a table of named sets that is loaded: the checker's verdict on it, also with both spans of the witness and its readable form, how much looking it took and how long a
 // match can be; or the pattern's byte groups; and the answers to the patterns of the input.
+#![tactic(auto)]
+
 ghost use Rattle.std.specs.Prelude.{◌≡◌, ◌≤◌, length, take};
 ghost use Rattle.lines.specs.Answers.{Served};
 ghost use Rattle.lines.specs.Exchange.{Finished};

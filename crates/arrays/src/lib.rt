@@ -1,5 +1,7 @@
 // The written-out pattern in arrays: what the reader hands over and the matchers walk.
 // `finish` makes the arrays from the reader's codes in three passes: kinds, sizes and masks. Codes that are no pattern give arrays too.
+#![tactic(auto)]
+
 ghost use Rattle.std.specs.Prelude.{◌≡◌, ◌+◌, ◌<◌, ◌≤◌, min, length, take, ltb};
 ghost use Rattle.grammar.specs.Code.Tokens.{max_parts};
 ghost use Rattle.grammar.specs.Code.Codes.{first_leaf};

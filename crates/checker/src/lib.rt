@@ -1,5 +1,7 @@
 // The checker: from a table of named sets, a pattern's bytes, a table, a witness buffer and an area of any lengths to a verdict. Paper 01, "Standings and their records" and
 // "Refusals"; paper 02, request 8: the test that needs no table comes first; request 9: the named sets are those of the table that is loaded.
+#![tactic(auto)]
+
 ghost use Rattle.std.specs.Prelude.{◌≡◌, ◌-◌, ◌<◌};
 ghost use Rattle.standing.specs.Stands.{arrays};
 ghost use Rattle.checker.specs.Verdicts.{Checks};

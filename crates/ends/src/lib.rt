@@ -1,4 +1,6 @@
 // The ends from a known start: the POSIX end by the set of wanted leaves, the greedy end by the standing. Runs of bytes that change nothing are passed over.
+#![tactic(auto)]
+
 ghost use Rattle.std.specs.Prelude.{◌≡◌, cond};
 ghost use Rattle.std.proofs.Math.Option.{some};
 ghost use Rattle.standing.specs.Stands.{arrays};

@@ -1,5 +1,7 @@
 // Facts of a pattern that its tables have, worked out once for many lines: what the first leaves want after each byte, the leaves after which an end stands, and how
 // the bytes that begin or end a match are looked for.
+#![tactic(auto)]
+
 ghost use Rattle.std.specs.Prelude.{◌≡◌};
 ghost use Rattle.facts.specs.Sets.{Wants, Endings, Nexts};
 ghost use Rattle.facts.specs.Known.{facts, how_at, Known};

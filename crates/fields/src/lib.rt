@@ -1,4 +1,6 @@
 // The fields of the greedy span (request 2): what each bracket of a pattern takes from a line. For many lines with one pattern: `prepare` once, then `cut` for each.
+#![tactic(auto)]
+
 ghost use Rattle.std.specs.Prelude.{◌≡◌};
 ghost use Rattle.matchers.specs.Tables.{tables};
 ghost use Rattle.fields.specs.Cuts.{no_piece, lent, Cuts, Prepares, Replied};

@@ -1,5 +1,7 @@
 // The follow tables of a pattern: what it can begin with and what can follow each leaf, in the order of preference, each outcome once.
 // They are built once for a pattern, by an ordered closure over its parts. With each outcome goes a mask of the fields that the way to it opens and closes (request 2).
+#![tactic(auto)]
+
 ghost use Rattle.std.specs.Prelude.{◌≡◌, false, [], ◌+◌, ◌*◌, ◌-◌, ◌^◌, ◌≤◌, ◌<◌, length, get_or};
 ghost use Rattle.std.specs.Int.Bits.{bit_or};
 ghost use Rattle.std.proofs.Math.Seq.{paste};

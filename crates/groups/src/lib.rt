@@ -1,4 +1,6 @@
 // The byte groups of a pattern, bytes that no leaf tells apart, and lines in bytes of the same groups that a person can read.
+#![tactic(auto)]
+
 ghost use Rattle.std.specs.Prelude.{◌≡◌, map, ◌+◌, ◌<◌, get_or};
 ghost use Rattle.groups.specs.Numbers.{groups_by};
 ghost use Rattle.groups.specs.Readable.{is_printable, printables, readable_by};

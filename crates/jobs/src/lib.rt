@@ -1,4 +1,6 @@
 // A job file's patterns: where each stands in the file.
+#![tactic(auto)]
+
 ghost use Rattle.std.specs.Prelude.{◌≡◌, ◌∷◌, ◌+◌, ◌≤◌, ◌<◌, length, drop, replicate, set};
 ghost use Rattle.jobs.specs.Job.{lines_of, between, JobOf};
 

@@ -1,5 +1,7 @@
 // The least and the greatest length that a pattern could match, each leaf counted as 1 whatever its set (request 6), part by part. Above 64 lengths are not told apart: no
 // accepted pattern has such a one, and the patterns that have grow without bound.
+#![tactic(auto)]
+
 ghost use Rattle.std.specs.Prelude.{◌≡◌, ◌+◌, ◌*◌};
 ghost use Rattle.lengths.specs.Lengths.{together, copies, endless, no_byte, one_byte, in_row, one_of, up_to, or_more};
 ghost use Rattle.lengths.specs.Code.{longest_of, is_limited, bytes_of, meaning, of_both, cap, cap_longest, capped};

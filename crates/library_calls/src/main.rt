@@ -2,6 +2,8 @@
 // buffer and area are lent. Before each call every byte of the three arrays is set, also beyond what is lent. Prints the verdict's line, then what the lent table and the
 // lent witness buffer hold, in hex, a line each; of the lent area how many zero bytes it begins with, as four hex digits, and the rest in hex; and 'kept' if no byte
 // beyond them has changed, else 'touched'. A field that is no number counts as 0.
+#![tactic(auto)]
+
 ghost use Rattle.std.specs.Prelude.{◌≤◌, ◌<◌, length};
 ghost use Rattle.lines.specs.Exchange.{Finished};
 

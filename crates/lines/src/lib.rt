@@ -1,6 +1,8 @@
 // Standard input by lines, and standard output by a buffer. Lines may have any length and hold any bytes but the newline; input and output go by chunks, so
 // memory stays the same. A program turns between two steps: it answers the lines that end in the chunk, which `next_line` finds, and exchanges what waits for
 // the next chunk. Only `exchange` reads, and it writes first; `write_out` and `tell` only write.
+#![tactic(auto)]
+
 ghost use Rattle.std.specs.Prelude.{◌≡◌, false, List, [], ◌+◌, ◌≤◌, leb, drop, length, take};
 ghost use Rattle.lines.specs.declared.Source.TheVariants.{Open};
 ghost use Rattle.lines.specs.Lines.{BeginsWith, NextLine, goes_on, FirstLine};

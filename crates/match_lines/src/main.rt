@@ -1,6 +1,8 @@
 // Reads a pattern line and then order lines from standard input, and prints for each order line both spans, 'none' or a refusal: paper 01, "The programs".
 // A refused pattern prints its refusal only. Lines may have any length; input and output go by chunks, so memory stays the same. What is known is printed before
 // more is read. A failed read or write ends the program with a line on standard error.
+#![tactic(auto)]
+
 ghost use Rattle.std.specs.Prelude.{◌≡◌};
 
 use lines::{KEPT, SIZE, State};

@@ -1,4 +1,6 @@
 // The greedy and the POSIX span of a line: the leftmost start with the POSIX end, then the greedy end from that start on. No buffer grows with the line.
+#![tactic(auto)]
+
 ghost use Rattle.matchers.specs.Tables.{tables};
 ghost use Rattle.matchers.specs.Cuts.{Cuts};
 

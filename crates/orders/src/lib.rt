@@ -1,4 +1,6 @@
 // What programs print for order lines: both spans, 'none' or a refusal (paper 01, "The programs"), or the greedy span with its fields (request 2).
+#![tactic(auto)]
+
 ghost use Rattle.std.specs.Prelude.{◌≡◌, take, ◌<◌, ◌≤◌, length, drop};
 ghost use Rattle.lines.specs.Exchange.{Finished};
 ghost use Rattle.matchers.specs.Tables.{tables};

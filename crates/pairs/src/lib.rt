@@ -3,6 +3,8 @@
 // pair and go on after the other to a live leaf, one from which an end can be reached; or if it may end before its first byte and some first leaf is live.
 // The pairs live in the first 1,024 bytes of a lent area, as 128 rows of 64 bits: bit q of row p is set if the pair of p and q is reached, and bit q of row 64 + p if it
 // is pending, its steps still to be taken. A row of pending pairs is taken at a time.
+#![tactic(auto)]
+
 ghost use Rattle.std.specs.Prelude.{◌≡◌, ◌+◌, ◌*◌, ◌≤◌, ◌<◌, length};
 ghost use Rattle.verdict.specs.Area.{cleared};
 ghost use Rattle.pairs.specs.Rows.{row_at, put_row, MarkedBy, with_each, sharing};

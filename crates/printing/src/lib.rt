@@ -1,4 +1,6 @@
 // The lines that the programs print, appended to a lent buffer: paper 01, "The programs". What does not fit is cut off; a program writes its buffer out in time.
+#![tactic(auto)]
+
 ghost use Rattle.std.specs.Prelude.{◌≡◌, [], ◌∷◌, ◌++◌, cond, ◌<◌, min, take};
 ghost use Rattle.std.proofs.Math.Option.{some, none};
 ghost use Rattle.io.specs.Digits.{last_digits};

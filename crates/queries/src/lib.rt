@@ -1,5 +1,7 @@
 // What the front end asks: the first line of the input of `ask`. It may begin with a table of named sets, which is then loaded (request 9): 'sets ', the table in lower-case hex,
 // and a space. The word that follows says what is asked.
+#![tactic(auto)]
+
 ghost use Rattle.std.specs.Prelude.{◌≡◌, true, drop};
 ghost use Rattle.queries.specs.Hex.{is_hex, hex_value, FromHex};
 ghost use Rattle.queries.specs.Query.{starts, is_word, word_of, query_of, Loads};

@@ -1,6 +1,8 @@
 // Reads patterns from standard input, one a line, and prints what the reader hands over for each: 'refused NUMBER PLACE', or
 // 'accepted PARTS LEAVES MEMBERS least LEAST greatest GREATEST', the parts and leaves of the written-out pattern, how many bytes the sets of its leaves hold together, and
 // how long a match can be (request 6); 'no limit' stands for a greatest length that there is none of.
+#![tactic(auto)]
+
 ghost use Rattle.std.specs.Prelude.{◌≤◌, ◌*◌, ◌<◌};
 ghost use Rattle.lines.specs.Exchange.{Finished};
 ghost use Rattle.printing.specs.Text.{Printed};

@@ -1,5 +1,7 @@
 // Reads a pattern: alternation, sequence and atom call each other, and the bytes left fall. The codes of the written-out pattern go to an array that is lent.
 // Limits and refusals: paper 01, "The pattern's grammar" and "Refusals"; paper 02, request 9: a table of named sets that fails its checks.
+#![tactic(auto)]
+
 ghost use Rattle.std.specs.Prelude.{◌≡◌, ◌≢◌, ℕ, ◌+◌, ◌≤◌, ◌<◌, min, max, List, [], ◌∷◌, length, get_or, replicate};
 ghost use Rattle.grammar.specs.Limits.{max_bytes};
 ghost use Rattle.grammar.specs.Brackets.{max_fields};

@@ -1,4 +1,6 @@
 // Both readings of a line, from the pattern's bytes. For many lines with one pattern: `prepare` once, then `matchers::cut` for each.
+#![tactic(auto)]
+
 ghost use Rattle.matchers.specs.Tables.{tables};
 ghost use Rattle.readings.specs.Replies.{CutBy, Replied};
 ghost use Rattle.readings.specs.Tables.{FilledBy, Prepared};

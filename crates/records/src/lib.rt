@@ -1,6 +1,8 @@
 // A standing as a record, and back: paper 01, "Standings and their records", in the width of request 7.
 // Byte 0 is the count of (a) with (b), byte 1 (d), bytes 2 to 9 (c), 10 and 11 the record that it comes from, 12 by which byte; from 13 on the leaf numbers of (a), four to three bytes.
 // Code holds a record in 64 bytes, and those past its width are zero: so one `pack` and one `unpack` do for every width.
+#![tactic(auto)]
+
 ghost use Rattle.std.specs.Prelude.{◌≡◌, [], ◌∷◌, ◌+◌, ◌*◌, ◌/◌, ◌%◌, ◌≤◌, ◌<◌, min, get_or, take, drop, replicate};
 ghost use Rattle.std.proofs.lemmas.List.Edits.{sets};
 ghost use Rattle.verdict.specs.Record.{narrow};

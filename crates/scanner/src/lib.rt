@@ -1,5 +1,7 @@
 // The pieces of a pattern's text: an item of a class, a class, a count, and whether the leaf at a place holds a byte, by the table of named sets that is loaded.
 // No function reads past the text, and each has an answer for every place.
+#![tactic(auto)]
+
 ghost use Rattle.std.specs.Prelude.{◌≡◌, ◌||◌, ◌<◌, get_or, drop};
 ghost use Rattle.grammar.specs.Grammar.{kind, special, inside, marked};
 ghost use Rattle.grammar.specs.Sets.{is_on, spans};

@@ -1,4 +1,6 @@
 // What the operators' screen shows of a pattern (request 3): its byte groups, and a line in bytes that a person can read.
+#![tactic(auto)]
+
 ghost use Rattle.screen.specs.Shows.{Shows, Rewrites};
 
 use reader::Answer;

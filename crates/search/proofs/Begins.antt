@@ -1,11 +1,11 @@
--- A turn: the first writes the empty line's record, each works out all successors of a record.
+-- The search's beginning: without a slot it ends at once, else the empty line's record is in slot 0.
 -- Assumes nothing.
-use mathlib.Core.Path.{◌≡◌, refl, sym, ap, ap₂, ◌∙◌, subst}
-use Prim.Native.Nat.{ℕ, suc, ◌*◌, ◌≤◌, ◌<◌, min}
+use mathlib.Core.Path.{◌≡◌, sym, ap, ap₂, ◌∙◌, subst}
+use Prim.Native.Nat.{ℕ, ◌*◌, ◌≤◌, ◌<◌, min}
 use mathlib.Core.Bool.{Bool}
 use mathlib.Core.List.{List, []}
 use native.Mathlib.Omega.{arith}
-use native.Mathlib.Nat.{mul-zero, min-eq_left}
+use native.Mathlib.Nat.{mul-zero}
 use lib.ListN.{length, take}
 use lib.Seq.{sets as stores}
 use Rattle.theory.specs.Pattern.{Re}
@@ -21,68 +21,48 @@ use Rattle.groups.specs.Turns.{same}
 use Rattle.groups.proofs.Numbers.{few_groups}
 use Rattle.records.specs.Packing.{Packed}
 use Rattle.table.specs.Slots.{slot_count, put}
-use Rattle.table.proofs.Laws.{slot_there, put_length}
+use Rattle.table.proofs.Laws.{slot_there}
 use Rattle.search.specs.declared.Progress.{Progress}
 use Rattle.search.specs.declared.Progress.TheVariants.{Clear, Witness, Full}
-use Rattle.search.specs.declared.Looking.{Looking}
 use Rattle.search.specs.declared.Course.{Course}
-use Rattle.search.specs.Turns.{Slotted, slots_in, Within, Grouping, Searching, CameTo, Worked, Put, Before, first, later, TurnTaken}
-use Rattle.search.proofs.Looks.{slots_are_due, slots_inside, same_length}
-use Rattle.search.proofs.Turns.{one_record, first_record}
+use Rattle.search.specs.Looking.{Takes}
+use Rattle.search.specs.Ends.{AllFound, Reached, Searched}
+use Rattle.search.specs.Turns.{Grouping, CameTo, Slotted, Run}
+use Rattle.search.proofs.Looks.{slots_are_due, slots_inside}
+use Rattle.search.proofs.Turns.{first_record, no_slot}
 
--- The groups are no more than the bytes, so none is left out.
-pub all_groups : {masks low : List ℕ} {count : ℕ} → Grouping masks low count → Grouping masks low (min count 256)
-all_groups {masks} {low} {count} (e, f) = (e, min-eq_left (omega (arith, f, few_groups (same masks))) ∙ f)
+-- There are no more groups than bytes.
+pub count_most : (share : ℕ → ℕ → Bool) {g : Groups} → g ≡ groups_by share → g.count ≤ 256
+count_most share e = omega (arith, ap (λ x. x.count) e, few_groups share)
 
--- The slots of a table are those of the definition.
-pub slots_due : {a : Arrays} {r : Re} → Lent r a → (w : ℕ) (t : List ℕ) → w ≡ (form_of r).bytes → slots_in w t ≡ slots (form_of r) (length t)
-slots_due {r = r} l w t e = ap (λ z. min (slot_count z (length t)) 65535) e ∙ slots_are_due r l.most (length t)
+-- Where the search ends, and what it takes.
+searched : {a : Arrays} {w : ℕ} {t₀ t : List ℕ} {x : Course} → ((r : Re) → Lent r a → w ≡ (form_of r).bytes → CameTo r t₀ t x.looking (λ n. AllFound r t₀ n t × Takes r (slots (form_of r) (length t₀)) x.looking) x.progress) → Searched a w t₀ x t
+searched {t₀ = t₀} {t} {x} f = record { ends = λ {r} l e. ends r x.progress (f r l e); looking = λ {r} l e. taken r x.progress (f r l e) }
+  where
+    ends : (r : Re) (p : Progress) → CameTo r t₀ t x.looking (λ n. AllFound r t₀ n t × Takes r (slots (form_of r) (length t₀)) x.looking) p → Reached r t₀ t (λ n. AllFound r t₀ n t) p
+    ends r (Clear n) (h, g) = h
+    ends r (Witness n) (h, g) = h
+    ends r Full (h, g) = h
 
-module _ {a : Arrays} {w : ℕ} {t : List ℕ} where
-  -- Record 0.
-  pub put_first : {s : Standing} {v t' : List ℕ} → First a s → Packed s 0 0 v → t' ≡ put w t 0 v → Put a w t t'
-  put_first {s} {v} {t'} first packed stored = record {
-    size = ap length stored ∙ put_length w t 0 v;
-    puts = λ {r} l f h.
-        let is : take (form_of r).bytes v ≡ record_bytes (form_of r) (standing r []) 0 0 = ap (take (form_of r).bytes) (packed.is l.most (first.stands l)) ∙ take_held (form_of r) (standing r []) 0 0 in
-        let room : 0 < slots (form_of r) (length t) = omega (arith, slots_due l w t f) in
-        let there : put (form_of r).bytes t 0 v ≡ stores t ((form_of r).bytes * 0) (take (form_of r).bytes v) = slot_there (form_of r).bytes t 0 _ t (omega (arith, slots_inside r l.most (length t))) in
-        stored ∙ ap (λ z. put z t 0 v) f ∙ there ∙ ap₂ (stores t) (mul-zero (form_of r).bytes) is ∙ sym (one_record r t room);
-  }
+    taken : (r : Re) (p : Progress) → CameTo r t₀ t x.looking (λ n. AllFound r t₀ n t × Takes r (slots (form_of r) (length t₀)) x.looking) p → Takes r (slots (form_of r) (length t₀)) x.looking
+    taken r (Clear n) (h, g) = g
+    taken r (Witness n) (h, g) = g
+    taken r Full (h, g) = g
 
--- There is a slot for record 0.
-within_one : {m n : ℕ} (p : Progress) → 0 < m → Within m 1 p → Within m n p
-within_one (Clear k) h f g = f h
-within_one (Witness k) h f = tt
-within_one Full h f = tt
+module _ {a : Arrays} {w : ℕ} {t₀ : List ℕ} {m : ℕ} (e : m ≡ min (slot_count w (length t₀)) 65535) where
+  slotted : {r : Re} → Lent r a → w ≡ (form_of r).bytes → Slotted r t₀ w m
+  slotted {r} l f = record { width = f; number = e ∙ ap (λ z. min (slot_count z (length t₀)) 65535) f ∙ slots_are_due r l.most (length t₀) }
 
-module _ {a : Arrays} {w : ℕ} {masks low : List ℕ} {count n : ℕ} {y : Looking} {x : Course} {t' : List ℕ} where
-  slotted : {m : ℕ} {t : List ℕ} {r : Re} {t₀ : List ℕ} → m ≡ slots_in w t → Lent r a → w ≡ (form_of r).bytes → length t ≡ length t₀ → Slotted r t₀ w m
-  slotted {t = t} {r} e l f size = record { width = f; number = e ∙ slots_due l w t f ∙ ap (slots (form_of r)) size }
+  pub search_nowhere : m ≡ 0 → Searched a w t₀ (record { progress = Full; looking = record { looks = 0; comparisons = 0 } }) t₀
+  search_nowhere z = searched λ r l f. no_slot r l.numbered (sym (slotted l f).number ∙ z)
 
-  abbrev Leads : (q : ℕ) → List ℕ → Type 0
-  Leads q t =
-      Grouping masks low count → {counted : Bool} {r : Re} {t₀ : List ℕ} → Lent r a → w ≡ (form_of r).bytes → 0 < slots_in w t → Before counted r t₀ q n y t
-      → CameTo counted r t₀ t' q x.looking (λ k. Searching counted r t₀ (suc q) 0 k x.looking t') x.progress
-
-  leads_later : {m q : ℕ} {t : List ℕ} → m ≡ slots_in w t → 0 < q → Worked (Grouping masks low (min count 256)) a q n w m y t x t' → Leads q t
-  leads_later e p worked known l f h (first none_yet) = absurd (omega arith)
-  leads_later e p worked known {r = r} l f h (later o i s) = worked.leads (all_groups known) l (slotted e l f (same_length r s.holds)) i s
-
-  leads_first : {m : ℕ} {t t₁ : List ℕ} → m ≡ slots_in w t → Put a w t t₁ → Worked (Grouping masks low (min count 256)) a 0 1 w m y t₁ x t' → Leads 0 t
-  leads_first {t = t} e put worked known {r = r} l f h (first none_yet) =
-      worked.leads (all_groups known) l (slotted e l f refl) (omega arith) (first_record r (omega (arith, slots_due l w t f)) (put.puts l f h) none_yet)
-  leads_first e put worked known l f h (later o i s) = absurd (omega arith)
-
-  module _ {m : ℕ} {t : List ℕ} (e : m ≡ slots_in w t) where
-    -- A later turn,
-    pub turn_later : {q : ℕ} → 0 < q → Worked (Grouping masks low (min count 256)) a q n w m y t x t' → TurnTaken (Grouping masks low count) a q n w y t x t'
-    turn_later p worked = record { within = subst (λ z. Within z n x.progress) e worked.within; leads = leads_later e p worked }
-
-    -- the first,
-    pub turn_first : {t₁ : List ℕ} → 0 < m → Put a w t t₁ → Worked (Grouping masks low (min count 256)) a 0 1 w m y t₁ x t' → TurnTaken (Grouping masks low count) a 0 n w y t x t'
-    turn_first h put worked = record { within = subst (λ z. Within z n x.progress) e (within_one x.progress h worked.within); leads = leads_first e put worked }
-
--- and one without a slot.
-pub turn_nowhere : {known : Type 0} {a : Arrays} {q n w : ℕ} {y : Looking} {t : List ℕ} → slots_in w t ≡ 0 → TurnTaken known a q n w y t (record { progress = Full; looking = y }) t
-turn_nowhere e = record { within = tt; leads = λ known l f h b. absurd (omega arith) }
+  pub search_run : {g : Groups} {s : Standing} {v t₁ : List ℕ} {x : Course} {t : List ℕ} → 0 < m → g ≡ groups_by (same a.masks) → First a s → Packed s 0 0 v → t₁ ≡ put w t₀ 0 v
+      → Run (Grouping a.masks g.lowest g.count) a w m t₁ x t → Searched a w t₀ x t
+  search_run {g} {s} {v} {x = x} {t} h grouped first packed stored run = searched λ r l f.
+      let number = (slotted l f).number in
+      let is : take (form_of r).bytes v ≡ record_bytes (form_of r) (standing r []) 0 0 = ap (take (form_of r).bytes) (packed.is l.most (first.stands l)) ∙ take_held (form_of r) (standing r []) 0 0 in
+      let room : 0 < slots (form_of r) (length t₀) = omega arith in
+      let there : put (form_of r).bytes t₀ 0 v ≡ stores t₀ ((form_of r).bytes * 0) (take (form_of r).bytes v) = slot_there (form_of r).bytes t₀ 0 _ t₀ (omega (arith, slots_inside r l.most (length t₀))) in
+      subst (λ k. CameTo r t₀ t x.looking (λ n. AllFound r t₀ n t × Takes r k x.looking) x.progress) number
+      (run.leads (ap (λ x. x.lowest) grouped, ap (λ x. x.count) grouped) l (slotted l f)
+      (first_record r room (stored ∙ ap (λ z. put z t₀ 0 v) f ∙ there ∙ ap₂ (stores t₀) (mul-zero (form_of r).bytes) is)))

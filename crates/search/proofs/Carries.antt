@@ -26,13 +26,15 @@ use Rattle.table.proofs.Laws.{slot_there}
 use Rattle.search.specs.declared.Progress.{Progress}
 use Rattle.search.specs.declared.Progress.TheVariants.{Clear, Witness, Full}
 use Rattle.search.specs.declared.Looking.{Looking}
-use Rattle.search.specs.Turns.{more, Working, Slotted, CameTo, Turned}
+use Rattle.search.specs.Looking.{Takes}
+use Rattle.search.specs.Ends.{WitnessFound, SlotsFull}
+use Rattle.search.specs.Turns.{more, Working, Slotted, Turned}
 use Rattle.search.proofs.Looks.{slots_inside, same_length, found, not_found}
 use Rattle.search.proofs.Turns.{line, known_turn, full_turn, new_turn, witness_turn}
 
 module _ (w : ℕ) {a : Arrays} {s after : Standing} {q c n : ℕ} {y z : Looking} {t v : List ℕ} {k : Look} (carried : Carried a s c after) (packed : Packed after q c v)
     (looked : k ≡ look w t (min n (slot_count w (length t))) (take w v)) (counted : z ≡ more y k.compared) where
-  module _ {counted : Bool} {r : Re} {t₀ : List ℕ} (l : Lent r a) (x : Working counted r t₀ s q c n y t) where
+  module _ {r : Re} {t₀ : List ℕ} (l : Lent r a) (x : Working r t₀ s q c n y t) where
     stands : Stands r after (standing r (line x))
     stands = subst (Stands r after) (sym (step r l.numbered (at x.state.lines q) c)) (carried.stands l x.stands)
 
@@ -51,14 +53,14 @@ module _ (w : ℕ) {a : Arrays} {s after : Standing} {q c n : ℕ} {y z : Lookin
   pub carry_known : {m : ℕ} → k.found ≡ true → Turned a s q c n w m y t (record { progress = Clear n; looking = z }) t
   carry_known e = record {
     within = λ g. g;
-    leads = λ {counted} {r} {t₀} l f byte lowest x.
+    leads = λ {r} {t₀} l f byte lowest x.
         let (inside, has, before, compared) = found r x.state.holds l.most l.numbered (line x) q c x.state.size (looked_for_lem l x f.width) e in
-        subst (λ z. Working counted r t₀ s q (suc c) n z t) (sym (counted ∙ ap (more y) compared)) (known_turn l.numbered x byte lowest k.number inside has before);
+        subst (λ z. Working r t₀ s q (suc c) n z t) (sym (counted ∙ ap (more y) compared)) (known_turn l.numbered x byte lowest k.number inside has before);
   }
 
   module _ (h : k.found ≡ false) where
-    none : {counted : Bool} {r : Re} {t₀ : List ℕ} (l : Lent r a) (x : Working counted r t₀ s q c n y t) → w ≡ (form_of r).bytes → ((j : ℕ) → j < n → standing r (at x.state.lines j) ≢ standing r (line x)) × (z ≡ more y n)
-    none {r = r} l x e =
+    none : {r : Re} {t₀ : List ℕ} (l : Lent r a) (x : Working r t₀ s q c n y t) → w ≡ (form_of r).bytes → ((j : ℕ) → j < n → standing r (at x.state.lines j) ≢ standing r (line x)) × (z ≡ more y n)
+    none {r} l x e =
         let (lacks, compared) = not_found r x.state.holds l.most l.numbered (line x) q c x.state.size (looked_for_lem l x e) h in
         (lacks, counted ∙ ap (more y) compared)
 
@@ -66,15 +68,15 @@ module _ (w : ℕ) {a : Arrays} {s after : Standing} {q c n : ℕ} {y z : Lookin
     pub carry_full : {m : ℕ} → m ≤ n → Turned a s q c n w m y t (record { progress = Full; looking = z }) t
     carry_full g = record {
       within = tt;
-      leads = λ {counted} {r} {t₀} l f byte lowest x.
+      leads = λ {r} {t₀} l f byte lowest x.
           let (lacks, counts) = none l x f.width in
-          subst (λ z. CameTo counted r t₀ t q z (λ k. ⊥) Full) (sym counts) (full_turn l.numbered x byte lowest lacks (omega (arith, f.number)));
+          subst (λ z. SlotsFull r t₀ t × Takes r (slots (form_of r) (length t₀)) z) (sym counts) (full_turn l.numbered x byte lowest lacks (omega (arith, f.number)));
     }
 
     -- None has, and the next slot gets it.
     module _ {m : ℕ} (g : n < m) {t' : List ℕ} (stored : t' ≡ put w t n v) where
-      written : {counted : Bool} {r : Re} {t₀ : List ℕ} → Lent r a → Slotted r t₀ w m → (x : Working counted r t₀ s q c n y t) → t' ≡ stores t ((form_of r).bytes * n) (record_bytes (form_of r) (standing r (line x)) q c)
-      written {r = r} {t₀} l f x =
+      written : {r : Re} {t₀ : List ℕ} → Lent r a → Slotted r t₀ w m → (x : Working r t₀ s q c n y t) → t' ≡ stores t ((form_of r).bytes * n) (record_bytes (form_of r) (standing r (line x)) q c)
+      written {r} {t₀} l f x =
           stored
           ∙ ap (λ z. put z t n v) f.width
           ∙ slot_there (form_of r).bytes t n _ t (omega (arith, same_length r x.state.holds, slots_inside r l.most (length t), ap (slots (form_of r)) (same_length r x.state.holds), f.number))
@@ -83,22 +85,22 @@ module _ (w : ℕ) {a : Arrays} {s after : Standing} {q c n : ℕ} {y z : Lookin
       carry_new : (after.some && not after.first) ≡ false → Turned a s q c n w m y t (record { progress = Clear (n + 1); looking = z }) t'
       carry_new e = record {
         within = λ i. omega arith;
-        leads = λ {counted} {r} {t₀} l f byte lowest x.
+        leads = λ {r} {t₀} l f byte lowest x.
             let more-records : suc n ≡ n + 1 = omega arith in
             let (lacks, counts) = none l x f.width in
-            subst (λ z. Working counted r t₀ s q (suc c) (n + 1) z t') (sym counts)
-            (subst (λ k. Working counted r t₀ s q (suc c) k (more y n) t') more-records
+            subst (λ z. Working r t₀ s q (suc c) (n + 1) z t') (sym counts)
+            (subst (λ k. Working r t₀ s q (suc c) k (more y n) t') more-records
             (new_turn l.numbered x byte lowest lacks (omega (arith, f.number)) (written l f x) (λ i. true≢false (sym (T_true _ i) ∙ shows l x ∙ e))));
       }
 
       carry_witness : (after.some && not after.first) ≡ true → Turned a s q c n w m y t (record { progress = Witness (n + 1); looking = z }) t'
       carry_witness e = record {
         within = tt;
-        leads = λ {counted} {r} {t₀} l f byte lowest x.
+        leads = λ {r} {t₀} l f byte lowest x.
             let more-records : suc n ≡ n + 1 = omega arith in
             let (lacks, counts) = none l x f.width in
-            subst (λ z. CameTo counted r t₀ t' q z (λ k. ⊥) (Witness (n + 1))) (sym counts)
-            (subst (λ k. CameTo counted r t₀ t' q (more y n) (λ k. ⊥) (Witness k)) more-records
+            subst (λ z. WitnessFound r t₀ (n + 1) t' × Takes r (slots (form_of r) (length t₀)) z) (sym counts)
+            (subst (λ k. WitnessFound r t₀ k t' × Takes r (slots (form_of r) (length t₀)) (more y n)) more-records
             (witness_turn l.numbered x byte lowest lacks (omega (arith, f.number)) (written l f x) (true_T _ (shows l x ∙ e))));
       }
 

@@ -6,7 +6,6 @@ pub mod Totals
 -- One turn of the search, case by case.
 mod Turns
 mod Carries
--- All bytes of a record, a turn, and all turns.
+-- Its loops.
 mod Works
 mod Begins
-mod Runs

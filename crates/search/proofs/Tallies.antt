@@ -23,11 +23,10 @@ use Rattle.theory.proofs.Records.{unique}
 use Rattle.verdict.specs.Table.{same_list, same, number_of}
 use Rattle.verdict.proofs.Tables.{same_list_eq, same_list_refl, same_eq, same_no, number_is}
 use Rattle.verdict.proofs.Tabled.{needs_some}
-use Rattle.turns.specs.Worked.{last_line}
 use Rattle.groups.specs.Numbers.{shares, is_lowest, lowest_below, lowest_bytes}
 use Rattle.groups.proofs.Numbers.{next_lowest, lowest_split}
 use Rattle.search.specs.declared.Looking.{Looking}
-use Rattle.search.specs.Looking.{compared, recorded, comparisons, carried_by, carried, up_to, until, looked_for, saturated, looking_for, Takes, takes}
+use Rattle.search.specs.Looking.{compared, recorded, comparisons, carried_by, carried, up_to, last_line, until, looked_for, saturated, looking_for, Takes, takes}
 use Rattle.search.specs.Turns.{more, recorded_all, looked_so_far, Tallied}
 
 -- The lines that bytes make of several lines.

@@ -3,7 +3,7 @@
 use mathlib.Core.Path.{◌≡◌, refl, sym, ap, ap₂, ◌∙◌, subst}
 use mathlib.Core.Logic.{◌≢◌}
 use Prim.Native.Nat.{ℕ, zero, suc, ◌+◌, ◌*◌, ◌≤◌, ◌<◌}
-use mathlib.Core.Bool.{Bool, true, false}
+use mathlib.Core.Bool.{true, false}
 use mathlib.Core.List.{List, [], ◌∷◌, ◌++◌, append-nil}
 use native.Mathlib.Omega.{arith}
 use native.Mathlib.Nat.{mul-one, mul-suc}
@@ -12,7 +12,7 @@ use lib.Seq.{sets}
 use lib.Dec.{T}
 use Rattle.theory.specs.Pattern.{Re, Numbered, SameGroup}
 use Rattle.theory.specs.Standing.{standing, is_witness}
-use Rattle.theory.specs.Records.{at, Alike, Unlike, up_to_witness}
+use Rattle.theory.specs.Records.{at, Alike}
 use Rattle.theory.proofs.Lines.{snoc_size, snoc_each, snoc_old, snoc_last, below_snoc}
 use Rattle.theory.specs.Code.Search.{begin, known, new, turn, Search}
 use Rattle.theory.proofs.Search.{trace_bytes}
@@ -22,21 +22,17 @@ use Rattle.theory.proofs.Groups.{pass_over}
 use Rattle.verdict.specs.Record.{form_of, record_bytes}
 use Rattle.verdict.specs.Table.{record_of, records_of, records, slots, onto}
 use Rattle.verdict.proofs.Tables.{records_size, record_size, records_add, record_is, record_zero, onto_more, slots_fit, onto_sets}
-use Rattle.verdict.proofs.Tabled.{needs_one}
-use Rattle.turns.specs.Worked.{turns_due}
-use Rattle.turns.proofs.Worked.{due_witness, due_full}
 use Rattle.standing.specs.declared.Standing.{Standing}
 use Rattle.standing.specs.Stands.{Stands}
 use Rattle.groups.specs.Numbers.{shares, is_lowest}
-use Rattle.search.specs.declared.Progress.TheVariants.{Witness, Full}
 use Rattle.search.specs.declared.Looking.{Looking}
-use Rattle.search.specs.Looking.{no_looking, Takes}
+use Rattle.search.specs.Looking.{Takes}
 use Rattle.search.specs.Ends.{HoldsRecords, AllFound, WitnessFound, SlotsFull}
-use Rattle.search.specs.Turns.{more, looked_so_far, Tallied, Searching, Working, CameTo}
+use Rattle.search.specs.Turns.{more, looked_so_far, Tallied, Searching, Working}
 use Rattle.search.proofs.Tallies.{so_far_none, tally_begin, tally_pass, tally_known, tally_last, tally_new, tally_turn, takes_nothing, takes_all, takes_witness, takes_full}
 
 -- The table with one record, and with none.
-pub one_record : (r : Re) (t₀ : List ℕ) → 0 < slots (form_of r) (length t₀) → onto t₀ (records (form_of r) (standing r) ([] ∷ [])) ≡ sets t₀ 0 (record_bytes (form_of r) (standing r []) 0 0)
+one_record : (r : Re) (t₀ : List ℕ) → 0 < slots (form_of r) (length t₀) → onto t₀ (records (form_of r) (standing r) ([] ∷ [])) ≡ sets t₀ 0 (record_bytes (form_of r) (standing r []) 0 0)
 unfolding records_of
 one_record r t₀ h =
     ap (onto t₀) (append-nil _ ∙ record_zero (form_of r) r [])
@@ -47,15 +43,15 @@ unfolding records_of
 no_record r t₀ = refl
 
 -- The line that the byte c makes of line q.
-abbrev pub line : {k : Bool} {r : Re} {t₀ : List ℕ} {s : Standing} {q c n : ℕ} {y : Looking} {t : List ℕ} → Working k r t₀ s q c n y t → List ℕ
+abbrev pub line : {r : Re} {t₀ : List ℕ} {s : Standing} {q c n : ℕ} {y : Looking} {t : List ℕ} → Working r t₀ s q c n y t → List ℕ
 line {q = q} {c = c} w = at w.state.lines q ++ (c ∷ [])
 
-module _ {counted : Bool} {r : Re} (d : Numbered 0 r) {t₀ : List ℕ} where
-  module _ {s : Standing} {q c n : ℕ} {y : Looking} {t : List ℕ} (w : Working counted r t₀ s q c n y t) (byte : c < 256) where
+module _ {r : Re} (d : Numbered 0 r) {t₀ : List ℕ} where
+  module _ {s : Standing} {q c n : ℕ} {y : Looking} {t : List ℕ} (w : Working r t₀ s q c n y t) (byte : c < 256) where
     here : q < length w.state.lines
     here = omega (arith, w.inside, w.state.size)
 
-    keeps : {y' : Looking} → Search r w.state.lines q (suc c) → (T counted → Tallied r (looked_so_far r w.state.lines q (suc c)) w.state.lines y') → Working counted r t₀ s q (suc c) n y' t
+    keeps : {y' : Looking} → Search r w.state.lines q (suc c) → Tallied r (looked_so_far r w.state.lines q (suc c)) w.state.lines y' → Working r t₀ s q (suc c) n y' t
     keeps x y = record {
       state = record { lines = w.state.lines; size = w.state.size; holds = w.state.holds; none = w.state.none; search = x; tallied = y };
       inside = w.inside;
@@ -63,16 +59,16 @@ module _ {counted : Bool} {r : Re} (d : Numbered 0 r) {t₀ : List ℕ} where
     }
 
     -- The byte is not the lowest of its group.
-    pub passed_turn : (b : ℕ) → b < c → SameGroup r b c → is_lowest (shares r) c ≡ false → Working counted r t₀ s q (suc c) n y t
-    passed_turn b l g e = keeps (pass_over r d w.state.search here byte b l g) (λ k. tally_pass r q c (w.state.tallied k) e)
+    pub passed_turn : (b : ℕ) → b < c → SameGroup r b c → is_lowest (shares r) c ≡ false → Working r t₀ s q (suc c) n y t
+    passed_turn b l g e = keeps (pass_over r d w.state.search here byte b l g) (tally_pass r q c w.state.tallied e)
 
     module _ (lowest : is_lowest (shares r) c ≡ true) where
       -- A record has the standing.
       pub known_turn : (k : ℕ) → k < n → standing r (at w.state.lines k) ≡ standing r (line w) → ((j : ℕ) → j < k → standing r (at w.state.lines j) ≢ standing r (line w))
-          → Working counted r t₀ s q (suc c) n (more y (k + 1)) t
+          → Working r t₀ s q (suc c) n (more y (k + 1)) t
       known_turn k l e before =
           let i : k < length w.state.lines = omega (arith, w.state.size) in
-          keeps (known w.state.search here byte k i e) (λ x. tally_known r q c (w.state.tallied x) lowest k i e before)
+          keeps (known w.state.search here byte k i e) (tally_known r q c w.state.tallied lowest k i e before)
 
       module _ (fresh : (k : ℕ) → k < n → standing r (at w.state.lines k) ≢ standing r (line w)) where
         grown : Search r (w.state.lines ++ (line w ∷ [])) q (suc c)
@@ -82,11 +78,11 @@ module _ {counted : Bool} {r : Re} (d : Numbered 0 r) {t₀ : List ℕ} where
         unmet k l = fresh k (omega (arith, w.state.size))
 
         -- The last look.
-        last : T counted → Tallied r (looked_so_far r w.state.lines q c ++ (line w ∷ [])) (w.state.lines ++ (line w ∷ [])) (more y n)
-        last x = subst (λ k. Tallied r (looked_so_far r w.state.lines q c ++ (line w ∷ [])) (w.state.lines ++ (line w ∷ [])) (more y k)) w.state.size (tally_last r q c (w.state.tallied x) lowest unmet)
+        last : Tallied r (looked_so_far r w.state.lines q c ++ (line w ∷ [])) (w.state.lines ++ (line w ∷ [])) (more y n)
+        last = subst (λ k. Tallied r (looked_so_far r w.state.lines q c ++ (line w ∷ [])) (w.state.lines ++ (line w ∷ [])) (more y k)) w.state.size (tally_last r q c w.state.tallied lowest unmet)
 
         -- No slot is left.
-        pub full_turn : slots (form_of r) (length t₀) ≤ n → CameTo counted r t₀ t q (more y n) (λ k. ⊥) Full
+        pub full_turn : slots (form_of r) (length t₀) ≤ n → SlotsFull r t₀ t × Takes r (slots (form_of r) (length t₀)) (more y n)
         full_turn h =
             let size : length w.state.lines ≡ slots (form_of r) (length t₀) = omega (arith, w.state.size, w.state.holds.fits) in (
               record {
@@ -99,8 +95,7 @@ module _ {counted : Bool} {r : Re} (d : Numbered 0 r) {t₀ : List ℕ} where
                   more = (line w, below_snoc 256 (at w.state.lines q) c (trace_bytes (standing r) (carries r d) 256 w.state.search q here) byte, unmet);
                 };
               },
-              λ L u needs. due_full r d needs (search_records r d grown) w.state.none here size,
-              λ x. takes_full r (slots (form_of r) (length t₀)) w.state.lines q c here byte lowest unmet d size w.state.none (search_records r d grown) (w.state.tallied x) (last x),
+              takes_full r (slots (form_of r) (length t₀)) w.state.lines q c here byte lowest unmet d size w.state.none (search_records r d grown) w.state.tallied last,
             )
 
         module _ (room : n < slots (form_of r) (length t₀)) {t' : List ℕ} (stored : t' ≡ sets t ((form_of r).bytes * n) (record_bytes (form_of r) (standing r (line w)) q c)) where
@@ -126,7 +121,7 @@ module _ {counted : Bool} {r : Re} (d : Numbered 0 r) {t₀ : List ℕ} where
               }
 
           -- A new record, no witness's,
-          pub new_turn : (T (is_witness (standing r (line w))) → ⊥) → Working counted r t₀ s q (suc c) (suc n) (more y n) t'
+          pub new_turn : (T (is_witness (standing r (line w))) → ⊥) → Working r t₀ s q (suc c) (suc n) (more y n) t'
           new_turn h = record {
             state = record {
               lines = w.state.lines ++ (line w ∷ []);
@@ -136,17 +131,14 @@ module _ {counted : Bool} {r : Re} (d : Numbered 0 r) {t₀ : List ℕ} where
                   (λ k l i. w.state.none k l (rw (snoc_old w.state.lines (line w) k l) at i))
                   (λ i. h (rw (snoc_last w.state.lines (line w)) at i));
               search = grown;
-              tallied = λ x. subst (λ k. Tallied r (looked_so_far r (w.state.lines ++ (line w ∷ [])) q (suc c)) (w.state.lines ++ (line w ∷ [])) (more y k)) w.state.size (tally_new r q c (w.state.tallied x) lowest unmet here);
+              tallied = subst (λ k. Tallied r (looked_so_far r (w.state.lines ++ (line w ∷ [])) q (suc c)) (w.state.lines ++ (line w ∷ [])) (more y k)) w.state.size (tally_new r q c w.state.tallied lowest unmet here);
             };
             inside = omega (arith, w.inside);
             stands = subst (λ u. Stands r s (standing r u)) (sym (snoc_old w.state.lines (line w) q here)) w.stands;
           }
 
-          first : T (is_witness (standing r (line w))) → Unlike (standing r) w.state.lines (line w)
-          first h = record { records = search_records r d grown; none = w.state.none; witness = h }
-
           -- or a witness's.
-          pub witness_turn : T (is_witness (standing r (line w))) → CameTo counted r t₀ t' q (more y n) (λ k. ⊥) (Witness (suc n))
+          pub witness_turn : T (is_witness (standing r (line w))) → WitnessFound r t₀ (suc n) t' × Takes r (slots (form_of r) (length t₀)) (more y n)
           witness_turn h = (
             record {
               lines = w.state.lines;
@@ -159,14 +151,11 @@ module _ {counted : Bool} {r : Re} (d : Numbered 0 r) {t₀ : List ℕ} where
               c = suc c;
               search = grown;
             },
-            λ L u needs.
-                let (e, f) = needs_one r d needs (up_to_witness w.state.lines (line w) (first h)) in
-                ap₂ (turns_due r (slots (form_of r) (length t₀))) e f ∙ due_witness r d (first h) here (omega (arith, w.state.size)),
-            λ x. takes_witness r (slots (form_of r) (length t₀)) w.state.lines q c here byte lowest unmet (omega (arith, w.state.size)) (first h) (w.state.tallied x) (last x),
+            takes_witness r (slots (form_of r) (length t₀)) w.state.lines q c here byte lowest unmet (omega (arith, w.state.size)) (record { records = search_records r d grown; none = w.state.none; witness = h }) w.state.tallied last,
           )
 
   -- Record q is carried on by all bytes.
-  pub next_record : {s : Standing} {q n : ℕ} {y : Looking} {t : List ℕ} → Working counted r t₀ s q 256 n y t → Searching counted r t₀ (suc q) 0 n y t
+  pub next_record : {s : Standing} {q n : ℕ} {y : Looking} {t : List ℕ} → Working r t₀ s q 256 n y t → Searching r t₀ (suc q) 0 n y t
   next_record {q = q} w =
       let here : q < length w.state.lines = omega (arith, w.inside, w.state.size) in
       record {
@@ -175,14 +164,14 @@ module _ {counted : Bool} {r : Re} (d : Numbered 0 r) {t₀ : List ℕ} where
         holds = w.state.holds;
         none = w.state.none;
         search = turn w.state.search here;
-        tallied = λ x. tally_turn r q here (w.state.tallied x);
+        tallied = tally_turn r q here w.state.tallied;
       }
 
   -- All records are.
-  pub all_found : {n : ℕ} {y : Looking} {t : List ℕ} → 0 < slots (form_of r) (length t₀) → Searching counted r t₀ n 0 n y t → AllFound r t₀ n t × (T counted → Takes r (slots (form_of r) (length t₀)) y)
+  pub all_found : {n : ℕ} {y : Looking} {t : List ℕ} → 0 < slots (form_of r) (length t₀) → Searching r t₀ n 0 n y t → AllFound r t₀ n t × Takes r (slots (form_of r) (length t₀)) y
   all_found {n} {y} h x = (
     record { lines = x.lines; size = x.size; holds = x.holds; alike = alike },
-    λ k. takes_all r (slots (form_of r) (length t₀)) h x.holds.fits alike (subst (λ k. Tallied r (looked_so_far r x.lines k 0) x.lines y) (sym x.size) (x.tallied k)),
+    takes_all r (slots (form_of r) (length t₀)) h x.holds.fits alike (subst (λ k. Tallied r (looked_so_far r x.lines k 0) x.lines y) (sym x.size) x.tallied),
   )
     where
       alike : Alike (standing r) x.lines
@@ -193,19 +182,18 @@ module _ {counted : Bool} {r : Re} (d : Numbered 0 r) {t₀ : List ℕ} where
       }
 
 -- The empty line's record stands in slot 0,
-pub first_record : {counted : Bool} (r : Re) {t₀ t : List ℕ} {y : Looking} → 0 < slots (form_of r) (length t₀) → t ≡ onto t₀ (records (form_of r) (standing r) ([] ∷ [])) → (T counted → y ≡ no_looking)
-    → Searching counted r t₀ 0 0 1 y t
-first_record r {t₀} h e none_yet = record {
+pub first_record : (r : Re) {t₀ t : List ℕ} → 0 < slots (form_of r) (length t₀) → t ≡ sets t₀ 0 (record_bytes (form_of r) (standing r []) 0 0) → Searching r t₀ 0 0 1 (record { looks = 0; comparisons = 0 }) t
+first_record r {t₀} h e = record {
   lines = [] ∷ [];
   size = refl;
-  holds = record { fits = h; table = e };
+  holds = record { fits = h; table = e ∙ sym (one_record r t₀ h) };
   none = λ k. elim k [ zero ↦ λ l i. start_no_witness r i | suc m ↦ λ l. absurd (omega arith) ];
   search = begin;
-  tallied = λ x. subst (Tallied r (looked_so_far r ([] ∷ []) 0 0) ([] ∷ [])) (sym (none_yet x)) (tally_begin r);
+  tallied = tally_begin r;
 }
 
 -- if there is one.
-pub no_slot : (r : Re) {t₀ : List ℕ} → Numbered 0 r → slots (form_of r) (length t₀) ≡ 0 → SlotsFull r t₀ t₀ × Takes r (slots (form_of r) (length t₀)) no_looking
+pub no_slot : (r : Re) {t₀ : List ℕ} → Numbered 0 r → slots (form_of r) (length t₀) ≡ 0 → SlotsFull r t₀ t₀ × Takes r (slots (form_of r) (length t₀)) (record { looks = 0; comparisons = 0 })
 no_slot r {t₀} d h = (
   record {
     lines = [];
@@ -217,5 +205,5 @@ no_slot r {t₀} d h = (
       more = ([], tt, λ k l. absurd (omega arith));
     };
   },
-  takes_nothing r (slots (form_of r) (length t₀)) d h (subst (λ W. Tallied r W ([] ∷ []) no_looking) (so_far_none r ([] ∷ [])) (tally_begin r)),
+  takes_nothing r (slots (form_of r) (length t₀)) d h (subst (λ W. Tallied r W ([] ∷ []) (record { looks = 0; comparisons = 0 })) (so_far_none r ([] ∷ [])) (tally_begin r)),
 )

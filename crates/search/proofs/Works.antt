@@ -1,4 +1,4 @@
--- All bytes of a record: the loop through the lowest bytes of the groups.
+-- The search's loops: through the lowest bytes of the groups, and through the records.
 -- Assumes nothing.
 use mathlib.Core.Path.{◌≡◌, refl, sym, ap, ◌∙◌, subst}
 use mathlib.Core.Bool.{Bool, false}
@@ -9,8 +9,11 @@ use types.Run.{OneOf}
 use denote.Enum.Declared.{tag_of}
 use lib.ListN.{length, get_or, get_or-append}
 use Rattle.theory.specs.Pattern.{Re, Numbered}
+use Rattle.theory.specs.Standing.{standing}
 use Rattle.theory.specs.Records.{at}
 use Rattle.theory.proofs.Tests.{T_true, either}
+use Rattle.theory.proofs.Search.{trace_place}
+use Rattle.theory.proofs.Records.{carries}
 use Rattle.verdict.specs.Record.{form_of}
 use Rattle.standing.specs.declared.Standing.{Standing}
 use Rattle.standing.specs.Stands.{Arrays, Lent}
@@ -26,10 +29,12 @@ use Rattle.search.specs.declared.Progress.{Progress}
 use Rattle.search.specs.declared.Progress.TheVariants.{Clear, Witness, Full}
 use Rattle.search.specs.declared.Looking.{Looking}
 use Rattle.search.specs.declared.Course.{Course}
-use Rattle.search.specs.Turns.{Searching, Working, Slotted, Within, Grouping, CameTo, Turned, Worked}
+use Rattle.search.specs.Looking.{Takes}
+use Rattle.search.specs.Ends.{AllFound}
+use Rattle.search.specs.Turns.{Searching, Working, Slotted, Within, Grouping, CameTo, Turned, Worked, Run}
 use Rattle.search.specs.contracts.Progress.{the_type}
 use Rattle.search.proofs.Looks.{all_inside, slot_record}
-use Rattle.search.proofs.Turns.{passed_turn, next_record}
+use Rattle.search.proofs.Turns.{passed_turn, next_record, all_found}
 
 -- What is told where an answer is neither of the other cases.
 pub not_clear : {p : Progress} → OneOf (1 ∷ 2 ∷ []) (tag_of the_type p) → (j : ℕ) → p ≡ Clear j → ⊥
@@ -39,10 +44,10 @@ not_clear h j e = either (λ x. go x) (λ x. go x) (subst (λ q. OneOf (1 ∷ 2 
     go x = omega arith
 
 -- A search that has ended is where it is, whatever would hold of one that goes on.
-pub stopped : {counted : Bool} (r : Re) (t₀ t : List ℕ) (q : ℕ) (y : Looking) (P Q : ℕ → Type 0) {p : Progress} → ((o : ℕ) → p ≡ Clear o → ⊥) → CameTo counted r t₀ t q y P p → CameTo counted r t₀ t q y Q p
-stopped r t₀ t q y P Q {p = Clear o} other x = absurd (other o refl)
-stopped r t₀ t q y P Q {p = Witness o} other x = x
-stopped r t₀ t q y P Q {p = Full} other x = x
+pub stopped : (r : Re) (t₀ t : List ℕ) (y : Looking) (P Q : ℕ → Type 0) {p : Progress} → ((o : ℕ) → p ≡ Clear o → ⊥) → CameTo r t₀ t y P p → CameTo r t₀ t y Q p
+stopped r t₀ t y P Q {p = Clear o} other x = absurd (other o refl)
+stopped r t₀ t y P Q {p = Witness o} other x = x
+stopped r t₀ t y P Q {p = Full} other x = x
 
 stopped_within : (m n : ℕ) {p : Progress} → ((o : ℕ) → p ≡ Clear o → ⊥) → Within m n p
 stopped_within m n {p = Clear o} other = absurd (other o refl)
@@ -55,19 +60,19 @@ edge_most share zero h = omega arith
 edge_most share (suc j) h = (lowest_byte share j h).0
 
 -- Bytes that are not the lowest of their groups are passed over.
-module _ {counted : Bool} {r : Re} (d : Numbered 0 r) {t₀ : List ℕ} {s : Standing} {q n : ℕ} {y : Looking} {t : List ℕ} where
+module _ {r : Re} (d : Numbered 0 r) {t₀ : List ℕ} {s : Standing} {q n : ℕ} {y : Looking} {t : List ℕ} where
   -- One adds nothing, since a lower byte shares its group;
-  pass_byte : (c : ℕ) → c < 256 → is_lowest (shares r) c ≡ false → Working counted r t₀ s q c n y t → Working counted r t₀ s q (suc c) n y t
+  pass_byte : (c : ℕ) → c < 256 → is_lowest (shares r) c ≡ false → Working r t₀ s q c n y t → Working r t₀ s q (suc c) n y t
   pass_byte c byte e w = let (b, lower, alike) = lower_one (shares r) c e in passed_turn d w byte b lower ((shares_is r b c).0 alike) e
 
   -- nor do those from c on and below e.
-  pass_bytes : (k c e : ℕ) → c + k ≡ e → e ≤ 256 → ((b : ℕ) → c ≤ b → b < e → is_lowest (shares r) b ≡ false) → Working counted r t₀ s q c n y t → Working counted r t₀ s q e n y t
-  pass_bytes zero c e i h none w = let here : c ≡ e = omega arith in subst (λ x. Working counted r t₀ s q x n y t) here w
+  pass_bytes : (k c e : ℕ) → c + k ≡ e → e ≤ 256 → ((b : ℕ) → c ≤ b → b < e → is_lowest (shares r) b ≡ false) → Working r t₀ s q c n y t → Working r t₀ s q e n y t
+  pass_bytes zero c e i h none w = let here : c ≡ e = omega arith in subst (λ x. Working r t₀ s q x n y t) here w
   pass_bytes (suc k) c e i h none w =
       pass_bytes k (suc c) e (omega arith) h (λ b g. none b (omega arith)) (pass_byte c (omega arith) (none c (omega arith) (omega arith)) w)
 
   -- After the first j of the lowest bytes the search comes to the next of them,
-  to_lowest : (j : ℕ) → j < length (lowest_bytes (shares r)) → Working counted r t₀ s q (edge (shares r) j) n y t → Working counted r t₀ s q (get_or (lowest_bytes (shares r)) j 0) n y t
+  to_lowest : (j : ℕ) → j < length (lowest_bytes (shares r)) → Working r t₀ s q (edge (shares r) j) n y t → Working r t₀ s q (get_or (lowest_bytes (shares r)) j 0) n y t
   to_lowest j h w =
       let c : ℕ = get_or (lowest_bytes (shares r)) j 0 in
       let byte : c < 256 = (lowest_byte (shares r) j h).0 in
@@ -75,7 +80,7 @@ module _ {counted : Bool} {r : Re} (d : Numbered 0 r) {t₀ : List ℕ} {s : Sta
       pass_bytes (c - edge (shares r) j) (edge (shares r) j) c (omega arith) (omega arith) (λ b g i. between (shares r) j b (omega arith) g (omega arith) (λ _. i)) w
 
   -- and after all of them to the end.
-  to_end : (j : ℕ) → j ≡ length (lowest_bytes (shares r)) → Working counted r t₀ s q (edge (shares r) j) n y t → Working counted r t₀ s q 256 n y t
+  to_end : (j : ℕ) → j ≡ length (lowest_bytes (shares r)) → Working r t₀ s q (edge (shares r) j) n y t → Working r t₀ s q 256 n y t
   to_end j h w =
       let most : edge (shares r) j ≤ 256 = edge_most (shares r) j (omega arith) in
       pass_bytes (256 - edge (shares r) j) (edge (shares r) j) 256 (omega arith) (omega arith) (λ b g i. between (shares r) j b (omega arith) g i (λ k. absurd (omega arith))) w
@@ -96,7 +101,14 @@ pub record AtGroup (a : Arrays) (low : List ℕ) (count q n w m : ℕ) (y₁ : L
   pub groups : j ≤ count
   pub size : length t ≡ length t₁
   pub within : n ≤ m → k ≤ m
-  pub works : Grouping a.masks low count → {counted : Bool} {r : Re} {t₀ : List ℕ} → Lent r a → Slotted r t₀ w m → q < n → Searching counted r t₀ q 0 n y₁ t₁ → Working counted r t₀ s q (edge (shares r) j) k y t
+  pub works : Grouping a.masks low count → {r : Re} {t₀ : List ℕ} → Lent r a → Slotted r t₀ w m → q < n → Searching r t₀ q 0 n y₁ t₁ → Working r t₀ s q (edge (shares r) j) k y t
+
+-- The records before q are carried on; the table, t₁ with record 0, has k records, and the looking is y.
+pub record AtRecord (a : Arrays) (known : Type 0) (w m : ℕ) (t₁ : List ℕ) (q k : ℕ) (y : Looking) (t : List ℕ) : Type 0 where
+  pub slot : 0 < m
+  pub size : length t ≡ length t₁
+  pub within : k ≤ m
+  pub found : known → {r : Re} {t₀ : List ℕ} → Lent r a → Slotted r t₀ w m → Searching r t₀ 0 0 1 (record { looks = 0; comparisons = 0 }) t₁ → Searching r t₀ q 0 k y t
 
 module _ {a : Arrays} where
   module _ {low : List ℕ} {count q n w m : ℕ} {y₁ : Looking} {t₁ : List ℕ} where
@@ -105,7 +117,7 @@ module _ {a : Arrays} where
       groups = omega arith;
       size = refl;
       within = λ g. g;
-      works = λ known {counted} {r} l e i x.
+      works = λ known {r} l e i x.
           let here : q < length x.lines = omega (arith, x.size) in
           let there : q < slot_count (form_of r).bytes (length t₁) = omega (arith, all_inside r x.holds l.most) in
           let is = ap (λ z. loaded z t₁ q) e.width ∙ slot_there (form_of r).bytes t₁ q _ _ there ∙ ap held (slot_record r x.holds q here) in
@@ -114,9 +126,9 @@ module _ {a : Arrays} where
 
     -- The next of the lowest bytes is tried.
     module _ {s : Standing} {j k : ℕ} {y : Looking} {t t' : List ℕ} {x : Course} (h : j < count) (b : AtGroup a low count q n w m y₁ t₁ s j k y t) (turned : Turned a s q (get_or low j 0) k w m y t x t') where
-      tried : Grouping a.masks low count → {counted : Bool} {r : Re} {t₀ : List ℕ} → Lent r a → Slotted r t₀ w m → q < n → Searching counted r t₀ q 0 n y₁ t₁
-          → CameTo counted r t₀ t' q x.looking (λ z. Working counted r t₀ s q (edge (shares r) (suc j)) z x.looking t') x.progress
-      tried known {counted} {r} l f i z =
+      tried : Grouping a.masks low count → {r : Re} {t₀ : List ℕ} → Lent r a → Slotted r t₀ w m → q < n → Searching r t₀ q 0 n y₁ t₁
+          → CameTo r t₀ t' x.looking (λ z. Working r t₀ s q (edge (shares r) (suc j)) z x.looking t') x.progress
+      tried known {r} l f i z =
           let there : j < length (lowest_bytes (shares r)) = omega (arith, group_count l known) in
           let (byte, lowest) = lowest_byte (shares r) j there in
           (subst (λ c. Turned a s q c k w m y t x t') (group_lowest l known j h) turned).leads l f byte (T_true _ lowest) (to_lowest l.numbered j there (b.works known l f i z))
@@ -128,21 +140,50 @@ module _ {a : Arrays} where
             groups = omega arith;
             size = g ∙ b.size;
             within = λ i. subst (Within m k) e turned.within (b.within i);
-            works = λ u {counted} {r} {t₀} l f i z.
-                subst (λ i. Working counted r t₀ s q (edge (shares r) i) o x.looking t') more
-                (subst (CameTo counted r t₀ t' q x.looking (λ z. Working counted r t₀ s q (edge (shares r) (suc j)) z x.looking t')) e (tried u l f i z));
+            works = λ u {r} {t₀} l f i z.
+                subst (λ i. Working r t₀ s q (edge (shares r) i) o x.looking t') more
+                (subst (CameTo r t₀ t' x.looking (λ z. Working r t₀ s q (edge (shares r) (suc j)) z x.looking t')) e (tried u l f i z));
           }
 
       -- The search ends within the record,
       pub group_stop : ((o : ℕ) → x.progress ≡ Clear o → ⊥) → Worked (Grouping a.masks low count) a q n w m y₁ t₁ x t'
       group_stop other = record {
         within = stopped_within m n other;
-        leads = λ u {counted} {r} {t₀} l f i z. stopped r t₀ t' q x.looking _ _ other (tried u l f i z);
+        leads = λ u {r} {t₀} l f i z. stopped r t₀ t' x.looking _ _ other (tried u l f i z);
       }
 
     -- or goes through all its groups.
     pub group_end : {s : Standing} {j k : ℕ} {y : Looking} {t : List ℕ} → count ≤ j → AtGroup a low count q n w m y₁ t₁ s j k y t → Worked (Grouping a.masks low count) a q n w m y₁ t₁ (record { progress = Clear k; looking = y }) t
     group_end {j = j} h b = record {
       within = b.within;
-      leads = λ known {counted} l f i z. next_record l.numbered (to_end l.numbered j (omega (arith, b.groups, group_count l known)) (b.works known l f i z));
+      leads = λ known l f i z. next_record l.numbered (to_end l.numbered j (omega (arith, b.groups, group_count l known)) (b.works known l f i z));
     }
+
+  module _ {known : Type 0} {w m : ℕ} {t₁ : List ℕ} where
+    pub record_start : 0 < m → AtRecord a known w m t₁ 0 1 (record { looks = 0; comparisons = 0 }) t₁
+    record_start h = record { slot = h; size = refl; within = h; found = λ u l e x. x }
+
+    module _ {q k : ℕ} {y : Looking} {t t' : List ℕ} {x : Course} (h : q < k) (b : AtRecord a known w m t₁ q k y t) (worked : Worked known a q k w m y t x t') where
+      pub record_step : {j : ℕ} → length t' ≡ length t → x.progress ≡ Clear j → AtRecord a known w m t₁ (q + 1) j x.looking t'
+      record_step {j} i e =
+          let more : suc q ≡ q + 1 = omega arith in
+          record {
+            slot = b.slot;
+            size = i ∙ b.size;
+            within = subst (Within m k) e worked.within b.within;
+            found = λ u {r} {t₀} l f z.
+                subst (λ i. Searching r t₀ i 0 j x.looking t') more
+                (subst (CameTo r t₀ t' x.looking (λ z. Searching r t₀ (suc q) 0 z x.looking t')) e (worked.leads u l f h (b.found u l f z)));
+          }
+
+      pub record_stop : ((j : ℕ) → x.progress ≡ Clear j → ⊥) → Run known a w m t₁ x t'
+      record_stop other = record { leads = λ u {r} {t₀} l f z. stopped r t₀ t' x.looking _ _ other (worked.leads u l f h (b.found u l f z)) }
+
+    pub record_end : {q k : ℕ} {y : Looking} {t : List ℕ} → k ≤ q → AtRecord a known w m t₁ q k y t → Run known a w m t₁ (record { progress = Clear k; looking = y }) t
+    record_end {q} {k} {y} {t} h b = record { leads = λ u l f z. go l f (b.found u l f z) }
+      where
+        go : {r : Re} {t₀ : List ℕ} → Lent r a → Slotted r t₀ w m → Searching r t₀ q 0 k y t → AllFound r t₀ k t × Takes r m y
+        go {r} {t₀} l f x =
+            let last : q ≡ k = either (λ i. absurd (omega (arith, x.size))) (λ i. i.0 ∙ x.size) (trace_place (standing r) (carries r l.numbered) 256 x.search) in
+            let (found, taken) = all_found l.numbered (omega (arith, b.slot, f.number)) (subst (λ z. Searching r t₀ z 0 k y t) last x) in
+            (found, subst (λ k. Takes r k y) (sym f.number) taken)

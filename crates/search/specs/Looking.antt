@@ -4,10 +4,9 @@ use Rattle.std.specs.Prelude.{ℕ, suc, ◌+◌, min, cond, List, [], ◌∷◌,
 use Rattle.std.proofs.Math.Option.{Option, none, some}
 use Rattle.theory.specs.Pattern.{Re}
 use Rattle.theory.specs.Standing.{standing}
-use Rattle.theory.specs.Records.{Needs}
+use Rattle.theory.specs.Records.{at, Needs}
 use Rattle.verdict.specs.Table.{same_list, number_of}
 use Rattle.groups.specs.Numbers.{shares, lowest_bytes}
-use Rattle.turns.specs.Worked.{last_line}
 use Rattle.search.specs.declared.Looking.{Looking}
 
 -- "How many records it compared: the found one's number plus 1, or all of them if none has the standing." The look for the standing of the line w, through the
@@ -37,7 +36,12 @@ unfoldable pub up_to : List ℕ → List (List ℕ) → List (List ℕ)
 up_to e [] = []
 up_to e (w ∷ W) = w ∷ cond (same_list w e) [] (up_to e W)
 
--- The lines of W up to the line that ends the search; all of them if there is none.
+-- The line, if there is one, that ends the search with m slots, where L has the first lines of the records that the pattern needs and w is the first witness if there
+-- is one: the line that there is no slot for, or the witness.
+abbrev pub last_line : ℕ → List (List ℕ) → Option (List ℕ) → Option (List ℕ)
+last_line m L w = cond (ltb m (length L)) (some (at L m)) w
+
+-- The lines of W up to that line; all of them if there is none.
 abbrev pub until : Option (List ℕ) → List (List ℕ) → List (List ℕ)
 until none W = W
 until (some e) W = up_to e W
@@ -53,10 +57,6 @@ saturated n = min n 18446744073709551615
 -- What the looks for the lines W take, where the empty line's record is there at first.
 abbrev pub looking_for : Re → List (List ℕ) → Looking
 looking_for r W = record { looks = saturated (length W); comparisons = saturated (comparisons r ([] ∷ []) W) }
-
--- There is no look.
-abbrev pub no_looking : Looking
-no_looking = record { looks = 0; comparisons = 0 }
 
 -- The looking that a search of the pattern r with m slots takes.
 pub data Takes (r : Re) (m : ℕ) : Looking → Type 0 where

@@ -1,16 +1,13 @@
 -- The search on its way: the records found stand in the table, those before record q are carried on by each byte, and record q by the bytes below c; and the looking so
 -- far.
 -- Assumes nothing.
-use Rattle.std.specs.Prelude.{◌≡◌, ℕ, suc, ◌+◌, ◌≤◌, ◌<◌, min, Bool, true, List, [], ◌∷◌, ◌++◌, length, take, T}
-use Rattle.std.proofs.Math.Option.{Option}
+use Rattle.std.specs.Prelude.{◌≡◌, ℕ, suc, ◌+◌, ◌≤◌, ◌<◌, true, List, [], ◌∷◌, ◌++◌, length, take}
 use Rattle.theory.specs.Pattern.{Re}
 use Rattle.theory.specs.Standing.{standing}
-use Rattle.theory.specs.Records.{at, NoWitness, Needs}
+use Rattle.theory.specs.Records.{at, NoWitness}
 use Rattle.theory.specs.Code.Search.{Search}
 use Rattle.verdict.specs.Record.{form_of}
-use Rattle.verdict.specs.Table.{records, slots, onto}
-use Rattle.turns.specs.Worked.{turns_due}
-use Rattle.table.specs.Slots.{slot_count}
+use Rattle.verdict.specs.Table.{slots}
 use Rattle.standing.specs.declared.Standing.{Standing}
 use Rattle.standing.specs.Stands.{Arrays, Lent, Stands}
 use Rattle.groups.specs.Numbers.{shares, is_lowest, lowest_below, lowest_bytes, groups_by}
@@ -19,8 +16,8 @@ use Rattle.search.specs.declared.Progress.{Progress}
 use Rattle.search.specs.declared.Progress.TheVariants as Progress
 use Rattle.search.specs.declared.Looking.{Looking}
 use Rattle.search.specs.declared.Course.{Course}
-use Rattle.search.specs.Looking.{recorded, carried_by, carried, saturated, looking_for, no_looking, Takes}
-use Rattle.search.specs.Ends.{HoldsRecords, AllFound, WitnessFound, SlotsFull, Reached}
+use Rattle.search.specs.Looking.{recorded, carried_by, carried, saturated, looking_for, Takes}
+use Rattle.search.specs.Ends.{HoldsRecords, AllFound, WitnessFound, SlotsFull}
 
 -- The looking after one more look, which compared n records.
 abbrev pub more : Looking → ℕ → Looking
@@ -40,18 +37,17 @@ pub record Tallied (r : Re) (W L : List (List ℕ)) (y : Looking) : Type 0 where
   pub takes : y ≡ looking_for r W
   pub lines : recorded_all r ([] ∷ []) W ≡ L
 
--- Whether the looks are counted: whoever takes a turn without a count of the looks before it learns nothing of the looking.
-pub record Searching (counted : Bool) (r : Re) (t₀ : List ℕ) (q c n : ℕ) (y : Looking) (t : List ℕ) : Type 0 where
+pub record Searching (r : Re) (t₀ : List ℕ) (q c n : ℕ) (y : Looking) (t : List ℕ) : Type 0 where
   pub lines : List (List ℕ)
   pub size : length lines ≡ n
   pub holds : HoldsRecords r t₀ lines t
   pub none : NoWitness (standing r) lines
   pub search : Search r lines q c
-  pub tallied : T counted → Tallied r (looked_so_far r lines q c) lines y
+  pub tallied : Tallied r (looked_so_far r lines q c) lines y
 
 -- At work on record q, whose standing is s.
-pub record Working (counted : Bool) (r : Re) (t₀ : List ℕ) (s : Standing) (q c n : ℕ) (y : Looking) (t : List ℕ) : Type 0 where
-  pub state : Searching counted r t₀ q c n y t
+pub record Working (r : Re) (t₀ : List ℕ) (s : Standing) (q c n : ℕ) (y : Looking) (t : List ℕ) : Type 0 where
+  pub state : Searching r t₀ q c n y t
   pub inside : q < n
   pub stands : Stands r s (standing r (at state.lines q))
 
@@ -59,10 +55,6 @@ pub record Working (counted : Bool) (r : Re) (t₀ : List ℕ) (s : Standing) (q
 pub record Slotted (r : Re) (t₀ : List ℕ) (w m : ℕ) : Type 0 where
   pub width : w ≡ (form_of r).bytes
   pub number : m ≡ slots (form_of r) (length t₀)
-
--- How many records of w bytes the table t has slots for.
-abbrev pub slots_in : ℕ → List ℕ → ℕ
-slots_in w t = min (slot_count w (length t)) 65535
 
 -- The records without a witness stay within the slots.
 abbrev pub Within : ℕ → ℕ → Progress → Type 0
@@ -74,44 +66,25 @@ Within m n Progress.Full = Unit {0}
 abbrev pub Grouping : List ℕ → List ℕ → ℕ → Type 0
 Grouping masks lowest count = (lowest ≡ (groups_by (same masks)).lowest) × (count ≡ (groups_by (same masks)).count)
 
--- A search with m slots ends in the turn of record q (request 10).
-abbrev pub EndsAt : Re → ℕ → ℕ → Type 0
-EndsAt r m q = (L : List (List ℕ)) (w : Option (List ℕ)) → Needs (standing r) L w → turns_due r m L w ≡ suc q
-
--- How far the turn of record q came with the looking y, where P says what holds of n records without a witness.
-abbrev pub CameTo : Bool → Re → List ℕ → List ℕ → ℕ → Looking → (ℕ → Type 0) → Progress → Type 0
-CameTo counted r t₀ t q y P (Progress.Clear n) = P n
-CameTo counted r t₀ t q y P (Progress.Witness n) = WitnessFound r t₀ n t × EndsAt r (slots (form_of r) (length t₀)) q × (T counted → Takes r (slots (form_of r) (length t₀)) y)
-CameTo counted r t₀ t q y P Progress.Full = SlotsFull r t₀ t × EndsAt r (slots (form_of r) (length t₀)) q × (T counted → Takes r (slots (form_of r) (length t₀)) y)
+-- How far the search came with the looking y, where P says what holds of n records without a witness.
+abbrev pub CameTo : Re → List ℕ → List ℕ → Looking → (ℕ → Type 0) → Progress → Type 0
+CameTo r t₀ t y P (Progress.Clear n) = P n
+CameTo r t₀ t y P (Progress.Witness n) = WitnessFound r t₀ n t × Takes r (slots (form_of r) (length t₀)) y
+CameTo r t₀ t y P Progress.Full = SlotsFull r t₀ t × Takes r (slots (form_of r) (length t₀)) y
 
 -- What the byte c, the lowest of its group, leads to from record q.
 pub record Turned (a : Arrays) (s : Standing) (q c n w m : ℕ) (y : Looking) (t : List ℕ) (x : Course) (t' : List ℕ) : Type 0 where
   pub within : Within m n x.progress
-  pub leads : {counted : Bool} {r : Re} {t₀ : List ℕ} → Lent r a → Slotted r t₀ w m → c < 256 → is_lowest (shares r) c ≡ true → Working counted r t₀ s q c n y t
-      → CameTo counted r t₀ t' q x.looking (λ k. Working counted r t₀ s q (suc c) k x.looking t') x.progress
+  pub leads : {r : Re} {t₀ : List ℕ} → Lent r a → Slotted r t₀ w m → c < 256 → is_lowest (shares r) c ≡ true → Working r t₀ s q c n y t
+      → CameTo r t₀ t' x.looking (λ k. Working r t₀ s q (suc c) k x.looking t') x.progress
 
 -- What all bytes lead to from record q, by what is known of the groups.
 pub record Worked (known : Type 0) (a : Arrays) (q n w m : ℕ) (y : Looking) (t : List ℕ) (x : Course) (t' : List ℕ) : Type 0 where
   pub within : Within m n x.progress
-  pub leads : known → {counted : Bool} {r : Re} {t₀ : List ℕ} → Lent r a → Slotted r t₀ w m → q < n → Searching counted r t₀ q 0 n y t
-      → CameTo counted r t₀ t' q x.looking (λ k. Searching counted r t₀ (suc q) 0 k x.looking t') x.progress
-
--- Record 0 stands in the table, where there is a slot for it.
-pub record Put (a : Arrays) (w : ℕ) (t t' : List ℕ) : Type 0 where
-  pub size : length t' ≡ length t
-  pub puts : {r : Re} → Lent r a → w ≡ (form_of r).bytes → 0 < slots_in w t → t' ≡ onto t (records (form_of r) (standing r) ([] ∷ []))
-
--- Before the turn of record q. Before the first the table is untouched; before a later one the records before q are carried on, and record q is there.
-pub data Before (counted : Bool) (r : Re) (t₀ : List ℕ) : ℕ → ℕ → Looking → List ℕ → Type 0 where
-  first : {n : ℕ} {y : Looking} → (T counted → y ≡ no_looking) → Before counted r t₀ 0 n y t₀
-  later : {q n : ℕ} {y : Looking} {t : List ℕ} → 0 < q → q < n → Searching counted r t₀ q 0 n y t → Before counted r t₀ q n y t
-
--- A turn, where there is a slot.
-pub record TurnTaken (known : Type 0) (a : Arrays) (q n w : ℕ) (y : Looking) (t : List ℕ) (x : Course) (t' : List ℕ) : Type 0 where
-  pub within : Within (slots_in w t) n x.progress
-  pub leads : known → {counted : Bool} {r : Re} {t₀ : List ℕ} → Lent r a → w ≡ (form_of r).bytes → 0 < slots_in w t → Before counted r t₀ q n y t
-      → CameTo counted r t₀ t' q x.looking (λ k. Searching counted r t₀ (suc q) 0 k x.looking t') x.progress
+  pub leads : known → {r : Re} {t₀ : List ℕ} → Lent r a → Slotted r t₀ w m → q < n → Searching r t₀ q 0 n y t
+      → CameTo r t₀ t' x.looking (λ k. Searching r t₀ (suc q) 0 k x.looking t') x.progress
 
 -- What is found from record 0 on.
-pub record Run (known : Type 0) (a : Arrays) (w : ℕ) (t : List ℕ) (x : Course) (t' : List ℕ) : Type 0 where
-  pub leads : known → {r : Re} → Lent r a → w ≡ (form_of r).bytes → Reached r t t' (λ n. AllFound r t n t') x.progress × Takes r (slots (form_of r) (length t)) x.looking
+pub record Run (known : Type 0) (a : Arrays) (w m : ℕ) (t : List ℕ) (x : Course) (t' : List ℕ) : Type 0 where
+  pub leads : known → {r : Re} {t₀ : List ℕ} → Lent r a → Slotted r t₀ w m → Searching r t₀ 0 0 1 (record { looks = 0; comparisons = 0 }) t
+      → CameTo r t₀ t' x.looking (λ n. AllFound r t₀ n t' × Takes r m x.looking) x.progress

@@ -1,12 +1,14 @@
 // The search through a pattern's standings. The table is the queue: each record in turn is carried on by the lowest byte of each group, upwards, and a standing that no record has gets the next slot.
-// It ends when no record is left, at the first witness, or when a record is needed and no slot is left. It goes by turns, one for each record, which can also be taken one by one (request 10 of paper 02).
+// It ends when no record is left, at the first witness, or when a record is needed and no slot is left.
+#![tactic(auto)]
+
 ghost use Rattle.std.specs.Prelude.{◌≡◌, not, ◌&&◌, cond, ◌+◌, ◌≤◌, ◌<◌, min};
 ghost use Rattle.table.specs.Slots.{slot_count};
 ghost use Rattle.standing.specs.Stands.{arrays};
 ghost use Rattle.search.specs.declared.Progress.TheVariants.{Clear, Witness};
 ghost use Rattle.search.specs.Ends.{Searched};
 ghost use Rattle.search.specs.Looking.{saturated};
-ghost use Rattle.search.specs.Turns.{more, slots_in, Turned, Grouping, Worked, Put, TurnTaken, Run};
+ghost use Rattle.search.specs.Turns.{more, Turned, Grouping, Worked, Run};
 
 use standing::Standing;
 
@@ -162,64 +164,11 @@ fn work<'a>(
     }
 }
 
-// Writes record 0, the empty line's.
-fn put_first<'a>(
-    table: &mut [u8],
-    width: usize,
-    masks: &'a [u64; 256],
-    rows: &'a [u8; 4225],
-    lens: &'a [u8; 65],
-    sets: &'a [u64; 65],
-    ends: &'a [u8; 65],
-)
-    ensures { Put (arrays masks.now rows.now lens.now sets.now ends.now) width table.old table.new }
-{
-    let s = Standing::initial(masks, rows, lens, sets, ends);
-    let v = records::pack(s, 0, 0);
-    table::store(table, width, 0, &v);
-}
-
-// One turn: all successors of record q, or as many as it takes to reach a witness or to run out of slots. The first turn, that of record 0, writes this record before. The table has n records of that
-// width when a later turn begins; `lowest` has the lowest bytes of the pattern's groups, and `count` says how many there are.
-pub fn turn<'a>(
-    table: &mut [u8],
-    q: usize,
-    n: usize,
-    width: usize,
-    looking: Looking,
-    lowest: &'a [u8; 256],
-    count: usize,
-    masks: &'a [u64; 256],
-    rows: &'a [u8; 4225],
-    lens: &'a [u8; 65],
-    sets: &'a [u64; 65],
-    ends: &'a [u8; 65],
-) -> Course
-    ensures taken { TurnTaken (Grouping masks.now lowest.now count) (arrays masks.now rows.now lens.now sets.now ends.now) q n width looking table.old result table.new }
-{
-    let slots = slots_of(table.len(), width);
-    let groups = words::least(count, 256);
-    if q > 0 {
-        return work(
-            table, q, n, width, slots, looking, lowest, groups, masks, rows, lens, sets, ends,
-        );
-    }
-    if slots == 0 {
-        return Course {
-            progress: Progress::Full,
-            looking,
-        };
-    }
-    put_first(table, width, masks, rows, lens, sets, ends);
-    work(
-        table, 0, 1, width, slots, looking, lowest, groups, masks, rows, lens, sets, ends,
-    )
-}
-
-// From record 0 on, a turn for each record.
+// From record 0 on, each record in turn.
 fn run<'a>(
     table: &mut [u8],
     width: usize,
+    slots: usize,
     lowest: &'a [u8; 256],
     count: usize,
     masks: &'a [u64; 256],
@@ -228,8 +177,8 @@ fn run<'a>(
     sets: &'a [u64; 65],
     ends: &'a [u8; 65],
 ) -> Course
-    requires { 0 < slots_in width table.old }
-    ensures { Run (Grouping masks.now lowest.now count) (arrays masks.now rows.now lens.now sets.now ends.now) width table.old result table.new }
+    requires { (0 < slots) × (slots ≤ 65535) × (count ≤ 256) }
+    ensures { Run (Grouping masks.now lowest.now count) (arrays masks.now rows.now lens.now sets.now ends.now) width slots table.old result table.new }
 {
     let mut n = 1;
     let mut looking = Looking {
@@ -238,8 +187,8 @@ fn run<'a>(
     };
     let mut q = 0;
     while q < n {
-        let x = turn(
-            table, q, n, width, looking, lowest, count, masks, rows, lens, sets, ends,
+        let x = work(
+            table, q, n, width, slots, looking, lowest, count, masks, rows, lens, sets, ends,
         );
         let p = x.progress;
         let Progress::Clear(k) = p else {
@@ -279,7 +228,10 @@ pub fn search<'a>(
     }
     let g = groups::groups_of(masks);
     let lowest = g.lowest;
+    let s = Standing::initial(masks, rows, lens, sets, ends);
+    let v = records::pack(s, 0, 0);
+    table::store(table, width, 0, &v);
     run(
-        table, width, &lowest, g.count, masks, rows, lens, sets, ends,
+        table, width, slots, &lowest, g.count, masks, rows, lens, sets, ends,
     )
 }

@@ -1,5 +1,7 @@
 // Places of a line: the end of a run of bytes that a set of leaves does not tell apart, and the next byte that some leaf of a set takes.
 // A byte that alone is taken, or one of few, is looked for by chunks of 32 bytes in a loop without an early exit, which the compiler turns into vectors.
+#![tactic(auto)]
+
 ghost use Rattle.std.specs.Prelude.{◌≡◌, true, ◌&&◌, ◌+◌, ◌≤◌, ◌<◌, length, leb};
 ghost use Rattle.seeking.specs.Places.{Kind, Passed, Lacks, Sought, One, Few, Other};
 ghost use Rattle.seeking.specs.Hows.{among, Finds};

@@ -1,5 +1,7 @@
 // The tables of named sets: the fixed one of paper 01, and the checks of a carrier's own (paper 02, request 9). Each of the 256 entries has the sets that hold its byte, from
 // the highest bit: alpha, digit, alnum, upper, lower, xdigit, space, punct.
+#![tactic(auto)]
+
 ghost use Rattle.std.specs.Prelude.{◌≡◌, ◌<◌, not};
 ghost use Rattle.grammar.specs.Sets.{set_table, is_on};
 ghost use Rattle.grammar.specs.Loaded.{passes};

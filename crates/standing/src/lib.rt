@@ -1,5 +1,7 @@
 // A standing by value: the first one, and the one that a byte carries it to.
 // (a) and (b) come from (a) in order, (c) and (d) from the set (c); both look up the follow tables, whose row 0 is the start's and row p + 1 the leaf p's.
+#![tactic(auto)]
+
 ghost use Rattle.std.specs.Prelude.{◌≡◌, false, ◌||◌, [], ◌∷◌, suc, ◌+◌, ◌*◌, ◌≤◌, ◌<◌, min, length, get_or, take, eqb};
 ghost use Rattle.theory.specs.Code.Closure.{flat};
 ghost use Rattle.standing.specs.Stands.{arrays, First, Carried};

@@ -1,6 +1,8 @@
 // The leftmost start and the POSIX end of a line, in passes forward.
 // First all leaves that any start wants are kept as one set, up to the first end: no match begins before the place where the set was last empty. Mostly one begins there.
 // Where none does, blocks of leaves are kept in order of start, a leaf only in the first block that has it. No buffer grows with the line.
+#![tactic(auto)]
+
 ghost use Rattle.std.specs.Prelude.{◌≡◌, cond, ◌+◌, ◌≤◌, ◌<◌, get_or, eqb};
 ghost use Rattle.standing.specs.Stands.{arrays};
 ghost use Rattle.facts.specs.Known.{facts};

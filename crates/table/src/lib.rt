@@ -1,4 +1,6 @@
 // A table of slots, of any length: records put in and taken out, the look for one, and the origin fields. The width of a record is an argument of each function.
+#![tactic(auto)]
+
 ghost use Rattle.std.specs.Prelude.{◌≡◌, ◌+◌, ◌-◌, ◌≤◌, min, length, take, drop};
 ghost use Rattle.table.specs.Slots.{slot_count, put, loaded, origin_at, byte_at};
 ghost use Rattle.table.specs.Looks.{first_unequal, comparison_end, look};

@@ -1,5 +1,7 @@
 // The fields of the greedy span (request 2): the most preferred way from a known start, in one pass forward. Each leaf that is wanted has a slot with the places where
 // its way last opened and closed each field; a byte moves the slots along the rows of the follow tables. No buffer grows with the line.
+#![tactic(auto)]
+
 ghost use Rattle.std.specs.Prelude.{◌≡◌, cond, ◌+◌, ◌*◌, ◌≤◌, ◌<◌, min, length, get_or};
 ghost use Rattle.words.specs.Sets.{has_bit};
 ghost use Rattle.threads.specs.Ways.{Led};

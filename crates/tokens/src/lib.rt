@@ -1,5 +1,7 @@
 // The codes of the written-out pattern while it is read: one more, and what a repeat makes of the part before it.
 // A code that finds the array full is lost; a pattern within the limits never has more than the array can hold.
+#![tactic(auto)]
+
 ghost use Rattle.std.specs.Prelude.{◌≡◌, ℕ, ◌+◌, ◌-◌, ◌≤◌, ◌<◌, List, [], ◌∷◌, ◌++◌, replicate};
 ghost use Rattle.grammar.specs.Code.Codes.{empty_kind, manner, star_of, exactly_codes, at_least_codes, lead_codes, shut_codes, close_codes, between_codes};
 ghost use Rattle.tokens.specs.Held.{Added, Rewritten};

@@ -1,4 +1,6 @@
 // Small total functions over machine words: sets of at most 64 leaves as the bits of a number, bit p for the leaf p, and numbers.
+#![tactic(auto)]
+
 ghost use Rattle.std.specs.Prelude.{◌≡◌, ◌&&◌, ◌||◌, ◌<◌, min, length};
 ghost use Rattle.std.specs.Int.Bits.{bit_or};
 ghost use Rattle.words.specs.Sets.{has_bit, with_leaf, with_leaf_if, TakenFrom};

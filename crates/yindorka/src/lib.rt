@@ -1,6 +1,8 @@
 // The library for other languages: how long a match of a pattern can be, how many bytes its records have, its tables, both spans of a line by them, the fields of its greedy span,
 // its byte groups, and the checker. A call whose name ends in `_with_sets` takes a table of named sets of any length and content, which is checked first (request 9); without that
 // ending it is the same with the fixed table. No function keeps a state, allocates or fails: a pattern that is no pattern is refused.
+#![tactic(auto)]
+
 ghost use Rattle.std.specs.Prelude.{◌≡◌, cond};
 ghost use Rattle.grammar.specs.Sets.{set_table};
 ghost use Rattle.matchers.specs.Tables.{tables};
