@@ -1,9 +1,9 @@
 -- A witness is cut differently, and a line that is cut differently holds a witness.
 -- Assumes nothing.
-use mathlib.Core.Path.{◌≡◌, refl, sym, ap, ◌∙◌}
+use mathlib.Core.Path.{◌≡◌, refl, sym, ap, ◌∙◌, subst}
 use mathlib.Core.Logic.{◌≢◌}
 use Prim.Native.Nat.{ℕ, zero, suc, ◌+◌, ◌-◌, ◌≤◌, ◌<◌, max}
-use mathlib.Core.Bool.{Bool, true, false, not}
+use mathlib.Core.Bool.{Bool, true, false, not, ◌||◌}
 use mathlib.Core.List.{List, [], ◌∷◌, ◌++◌, append-nil, append_assoc}
 use mathlib.Core.Option.{Option, none, some, map, some-ne-none, discrete}
 use native.Mathlib.Omega.{arith}
@@ -154,8 +154,8 @@ greatest (ends_at k ∷ l) = go (greatest_end l) (greatest l)
     go (some m) h = (
       end {k = k} (omega arith) (all_map (λ j c. omega arith) (λ p c. c) h.0),
       elim (dec_le k m) [
-        | yes c ↦ let e : max k m ≡ m = omega arith in rw e (or_right (eqb k m) (some_is m l) h.1)
-        | no c ↦ let e : max k m ≡ k = omega arith in rw e (or_left (eqb k k) (some_is k l) (eqb_refl k))
+        | yes c ↦ let e : m ≡ max k m = omega arith in subst (λ n. T (eqb k n || some_is n l)) e (or_right (eqb k m) (some_is m l) h.1)
+        | no c ↦ let e : k ≡ max k m = omega arith in subst (λ n. T (eqb k n || some_is n l)) e (or_left (eqb k k) (some_is k l) (eqb_refl k))
       ],
     )
 

@@ -8,7 +8,7 @@ use native.Mathlib.Omega.{arith}
 use lib.ListN.{length, drop, length-drop}
 use lib.Dec.{T, ltb, ltb→lt}
 use Rattle.theory.specs.Pattern.{Manner, eager, lazy, Re, empty, leaf, seq, alt, star, field}
-use Rattle.theory.specs.Outcomes.{Outcome, ends_at, wants, and_then, when, empty_turn, after_turn, then_leave, leaf_outcomes, star_outcomes, outcomes}
+use Rattle.theory.specs.Outcomes.{Outcome, ends_at, wants, want, and_then, when, empty_turn, after_turn, then_leave, leaf_outcomes, star_outcomes, outcomes}
 use Rattle.theory.proofs.Outcomes.{AllOut, none, end, wish, replace_congr, all_map, all_append, all_replace}
 use Rattle.theory.proofs.Turns.{all_then_leave, all_after_turn, after_turn_congr}
 
@@ -49,7 +49,7 @@ module _ {Q : ℕ → Type 0} (how : Manner) (f : ℕ → List (Outcome ℕ)) (n
   star_outcomes_enough (suc d) zero i p q = absurd (omega arith)
   star_outcomes_enough (suc d) (suc e) i p q =
       ap (λ l. then_leave how l i)
-      (replace_congr
+      (replace_congr {g = want} {g' = want}
       (all_map
       (λ k b. after_turn_congr i k λ t. star_outcomes_enough d e k (omega (arith, ltb→lt i k t)) (omega (arith, ltb→lt i k t)))
       (λ p q. refl)
@@ -101,7 +101,7 @@ module _ (w : List ℕ) (i : ℕ) where
   unfolding outcomes star_outcomes
   outcomes_star how x =
       ap (λ l. then_leave how l i)
-      (replace_congr
+      (replace_congr {g = want} {g' = want}
       (all_map
       (λ k b. after_turn_congr i k λ t. star_outcomes_enough how (outcomes x w) (length w) (λ j. outcomes_all x w j) (length w) (suc (length w)) k
       (omega (arith, ltb→lt i k t)) (omega arith))

@@ -10,7 +10,7 @@ use lib.Dec.{eqb}
 use Rattle.theory.specs.Pattern.{eager, Re, empty, leaf, seq, alt, star}
 use Rattle.theory.specs.Outcomes.{empty_turn, then_leave, star_outcomes, outcomes}
 use Rattle.theory.specs.Spans.{Span, span, greedy}
-use Rattle.theory.specs.Base.{base_star, list_by, base}
+use Rattle.theory.specs.Base.{base_star, list_by}
 use Rattle.theory.specs.Preference.{MatchSet, Greedy, Denotes}
 use Rattle.theory.specs.Standing.{from}
 use Rattle.theory.proofs.Preference.{places}

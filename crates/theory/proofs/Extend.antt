@@ -130,7 +130,7 @@ grow r b n l = replace (λ k. ends_at k ∷ []) (λ p. place (suc n) (after r b 
 pub grow_congr : (b n : ℕ) (x y : Re) {P : ℕ → Type 0} {Q : ℕ → Type 0} {l : List (Outcome ℕ)}
     → ((p : ℕ) → Q p → after x b p ≡ after y b p) → AllOut P Q l → grow x b n l ≡ grow y b n l
 unfolding grow
-grow_congr b n x y e h = replace_congr (all_map (λ k _. refl) (λ p q. ap (place (suc n)) (e p q)) h)
+grow_congr b n x y e h = replace_congr {f = λ k. ends_at k ∷ []} {f' = λ k. ends_at k ∷ []} (all_map (λ k _. refl) (λ p q. ap (place (suc n)) (e p q)) h)
 
 grow_after_turn : (r : Re) (b n i k : ℕ) (l : List (Outcome ℕ)) → grow r b n (after_turn i k l) ≡ after_turn i k (grow r b n l)
 unfolding grow

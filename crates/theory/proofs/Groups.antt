@@ -11,7 +11,7 @@ use native.Mathlib.Decide.{dec_lt}
 use lib.ListN.{length, drop, length-map}
 use lib.Dec.{eqb, eqb_refl}
 use Rattle.theory.specs.Pattern.{Re, empty, leaf, seq, alt, star, field, has, count, Numbered, SameGroup}
-use Rattle.theory.specs.Outcomes.{Outcome, ends_at, when, and_then, leaf_outcomes, star_outcomes, outcomes}
+use Rattle.theory.specs.Outcomes.{ends_at, when, and_then, leaf_outcomes, star_outcomes, outcomes}
 use Rattle.theory.specs.Spans.{first_end, greatest_end, leftmost, greedy, posix, CutDifferently}
 use Rattle.theory.specs.Standing.{fronts, wanted, once, set_of, Standing, standing}
 use Rattle.theory.specs.Records.{at}

@@ -1,13 +1,13 @@
 -- Source 000's order is a strict linear order on the matches: that in which the ends first stand in the list as it was before the requested changes.
 -- Assumes nothing.
-use mathlib.Core.Path.{◌≡◌, sym, subst, subst₂}
+use mathlib.Core.Path.{◌≡◌, refl, sym, ◌∙◌, subst, subst₂}
 use mathlib.Core.Logic.{◌⊎◌, inl, inr, ◌↔◌}
 use Prim.Native.Nat.{ℕ}
 use mathlib.Core.List.{List, [], ◌∷◌, Memᴰ as Mem}
 use native.Mathlib.Decide.{ℕ_discrete}
 use Rattle.theory.specs.Pattern.{Manner, Re, empty, leaf, seq, alt, star, field}
 use Rattle.theory.specs.Matching.{Matches, m_seq, m_left, m_right, m_done, m_again, m_field}
-use Rattle.theory.specs.Preference.{Least, ByLeast, by_least, AltWay, alt_end, AltLess, left, right, SeqLess, first, second, StarWay, star_end, StarLess, turn, rest, Prefer}
+use Rattle.theory.specs.Preference.{Least, ByLeast, by_least, AltWay, alt_end, AltLess, left, right, SeqLess, first, second, StarWay, star_end, StarLess, turn, rest, Prefer, left_right, more, less}
 use Rattle.theory.proofs.Tests.{either}
 use Rattle.theory.proofs.Ranked.{Before, before_total, before_trans}
 use Rattle.theory.proofs.Preference.{places, in_order}
@@ -25,20 +25,45 @@ module _ (P Q : ℕ → ℕ → Type 0) (p : (j k : ℕ) → P j k → P k j →
   alt_asym : (a b : ℕ ⊎ ℕ) → AltLess P Q a b → AltLess P Q b a → ⊥
   alt_asym a b (left {j = j} {k = k} l) (left m) = p j k l m
   alt_asym a b (right {j = j} {k = k} l) (right m) = q j k l m
+  alt_asym a b left_right m = elim m [ ]
 
 module _ (P : ℕ → ℕ → Type 0) (Q : ℕ → ℕ → ℕ → Type 0) (p : (j k : ℕ) → P j k → P k j → ⊥) (q : (i j k : ℕ) → Q i j k → Q i k j → ⊥) where
+  seq_apart : {a b c d : ℕ × ℕ} → SeqLess P Q a b → SeqLess P Q c d → a.0 ≡ d.0 → b.0 ≡ c.0 → a.1 ≡ d.1 → b.1 ≡ c.1 → ⊥
+  seq_apart (first {j = j} {j' = k} l) (first m) e f g h = p j k l (subst₂ P (sym f) (sym e) m)
+  seq_apart (first {j = j} l) (second m) e f g h = let t = subst (P j) (f ∙ sym e) l in p j j t t
+  seq_apart (second l) (first {j = j} m) e f g h = let t = subst (P j) (sym e ∙ f) m in p j j t t
+  seq_apart (second {j = i} {k = j} {k' = k} l) (second {k = k1} {k' = j1} m) e f g h = q i j k l (subst₂ (Q i) (sym h) (sym g) (subst (λ x. Q x k1 j1) (sym e) m))
+
   seq_asym : (a b : ℕ × ℕ) → SeqLess P Q a b → SeqLess P Q b a → ⊥
-  seq_asym a b (first {j = j} {j' = k} l) (first m) = p j k l m
-  seq_asym a b (first {j = j} l) (second m) = p j j l l
-  seq_asym a b (second l) (first {j = j} m) = p j j m m
-  seq_asym a b (second {j = i} {k = j} {k' = k} l) (second m) = q i j k l m
+  seq_asym a b l m = seq_apart l m refl refl refl refl
+
+head_same : {j k : ℕ} {s t : List ℕ} → j ∷ s ≡ k ∷ t → j ≡ k
+head_same e = cc
+
+tail_same : {j k : ℕ} {s t : List ℕ} → j ∷ s ≡ k ∷ t → s ≡ t
+tail_same e = cc
 
 module _ (P : ℕ → ℕ → ℕ → Type 0) (p : (i j k : ℕ) → P i j k → P i k j → ⊥) where
+  star_apart : {how how' : Manner} {i i' : ℕ} {a b c d : List ℕ} → StarLess P how i a b → StarLess P how' i' c d → how ≡ how' → i ≡ i' → a ≡ d → b ≡ c → ⊥
+  star_apart {i = i} (turn {j = j} {j' = k} l) (turn {j = k1} {j' = j1} m) e f g h = p i j k l (subst₂ (P i) (sym (head_same h)) (sym (head_same g)) (subst (λ x. P x k1 j1) (sym f) m))
+  star_apart {i = i} (turn {j = j} l) (rest m) e f g h = let t = subst (P i j) (head_same h ∙ sym (head_same g)) l in p i j j t t
+  star_apart {i' = i} (rest l) (turn {j = j} m) e f g h = let t = subst (P i j) (sym (head_same g) ∙ head_same h) m in p i j j t t
+  star_apart (rest l) (rest m) e f g h = star_apart l m e (head_same g) (tail_same g) (tail_same h)
+  star_apart (turn l) more e f g h = cc
+  star_apart (turn l) less e f g h = cc
+  star_apart (rest l) more e f g h = cc
+  star_apart (rest l) less e f g h = cc
+  star_apart more (turn m) e f g h = cc
+  star_apart more (rest m) e f g h = cc
+  star_apart more more e f g h = cc
+  star_apart more less e f g h = cc
+  star_apart less (turn m) e f g h = cc
+  star_apart less (rest m) e f g h = cc
+  star_apart less more e f g h = cc
+  star_apart less less e f g h = cc
+
   star_asym : (how : Manner) (i : ℕ) (a b : List ℕ) → StarLess P how i a b → StarLess P how i b a → ⊥
-  star_asym how i a b (turn {j = j} {j' = k} l) (turn m) = p i j k l m
-  star_asym how i a b (turn {j = j} l) (rest m) = p i j j l l
-  star_asym how i a b (rest l) (turn {j = j} m) = p i j j m m
-  star_asym how i a b (rest {j = j} {s = s} {s' = t} l) (rest m) = star_asym how j s t l m
+  star_asym how i a b l m = star_apart l m refl refl refl refl
 
 pub asym : (w : List ℕ) (r : Re) (i j k : ℕ) → Prefer w r i j k → Prefer w r i k j → ⊥
 unfolding Prefer

@@ -51,6 +51,7 @@ module _ {A : Type 0} where
           either (λ q. inl q) (λ t. inr (either (λ u. inl (later f u)) (λ u. inr (later e u)) t)) (below (either (λ q. absurd (e q)) (λ n. n) (Memᴰ.cases_cons m)))
 
 pub before_map : {A B : Type 0} {f : A → B} → ((a b : A) → f a ≡ f b → a ≡ b) → {c d : B} {a b : A} (l : List A) → c ≡ f a → d ≡ f b → Before c d (map f l) → Before a b l
+before_map inj [] p q b = elim b [ ]
 before_map {f = f} inj {a = a} (x ∷ l) p q (now e n) = now (inj a x (sym p ∙ e)) (λ t. n (q ∙ ap f t))
 before_map {f = f} inj (x ∷ l) p q (later n h) = later (λ t. n (q ∙ ap f t)) (before_map inj l p q h)
 
@@ -119,6 +120,7 @@ module _ {A B C : Type 0} (g : B → C → A) (h : B → List C) where
 
   module _ (dec : Discrete B) (inj : (b b' : B) (c c' : C) → g b c ≡ g b' c' → (b ≡ b') × (c ≡ c')) where
     each_before : {b b' : B} {c c' : C} (l : List B) → Mem c' (h b') → Before (g b c) (g b' c') (each g h l) → Before b b' l ⊎ ((b ≡ b') × Before c c' (h b'))
+    each_before [] m t = elim t [ ]
     each_before {b} {b'} {c} {c'} (d ∷ l) m t = either here (there (each_before l m)) (before_append (map (g d) (h d)) t)
       where
         here : Before (g b c) (g b' c') (map (g d) (h d)) → Before b b' (d ∷ l) ⊎ ((b ≡ b') × Before c c' (h b'))

@@ -75,9 +75,13 @@ module _ (r : Re) where
         | yes a ↦ inl (0, omega arith, e ∙ a)
         | no a ↦ elim (seek s p) [
           | inl b ↦ inl (suc b.0, omega arith, b.2)
-          | inr b ↦ inr (λ k. elim k [ zero ↦ λ l x. a (sym e ∙ x) | suc m ↦ λ l x. b m (omega arith) x ])
+          | inr b ↦ inr (no_place a b)
         ]
       ]
+    where
+      no_place : (t ≢ s) → ((k : ℕ) → k < length L → standing r (at L k) ≢ s) → (k : ℕ) → k < length (w ∷ L) → standing r (at (w ∷ L) k) ≢ s
+      no_place a b zero l x = a (sym e ∙ x)
+      no_place a b (suc m) l x = b m (omega arith) x
 
 module _ (r : Re) (d : Numbered 0 r) (slots : ℕ) where
   unfoldable pub run : (f : ℕ) {L : List (List ℕ)} {S : List Standing} {q c : ℕ} → Search r L q c → Stands r L S → ((k : ℕ) → k < length L → T (is_witness (standing r (at L k))) → ⊥)
@@ -144,7 +148,9 @@ check r d slots =
         none = λ k l. absurd (omega arith);
         more = ([], tt, λ k l. absurd (omega arith));
       })
-      | yes h ↦ run r d slots (257 * slots + 257) begin (more {s = standing r []} refl none)
-          (λ k. elim k [ zero ↦ λ l t. start_no_witness r t | suc m ↦ λ l. absurd (omega arith) ])
-          h (omega arith) (omega arith)
+      | yes h ↦ run r d slots (257 * slots + 257) begin (more {s = standing r []} refl none) first h (omega arith) (omega arith)
     ]
+  where
+    first : (k : ℕ) → k < length {A = List ℕ} ([] ∷ []) → T (is_witness (standing r (at ([] ∷ []) k))) → ⊥
+    first zero l t = start_no_witness r t
+    first (suc m) l t = absurd (omega arith)

@@ -12,7 +12,7 @@ use native.Mathlib.Decide.{ℕ_discrete}
 use lib.ListN.{length}
 use lib.Dec.{T, eqb, eqb_refl, ltb, lt→ltb}
 use Rattle.theory.specs.Pattern.{Manner, eager, Re, empty, leaf, seq, alt, star, field, count}
-use Rattle.theory.specs.Outcomes.{Outcome, ends_at, wants, and_then, when, after_turn, then_leave, star_outcomes, Lists, outcomes}
+use Rattle.theory.specs.Outcomes.{Outcome, ends_at, wants, want, and_then, when, after_turn, then_leave, star_outcomes, Lists, outcomes}
 use Rattle.theory.specs.Base.{base_star, list_by, base, nullable, Plain, bare, turns_first_star, turns_first, Eager}
 use Rattle.theory.specs.Matching.{Matches, m_empty, m_leaf, m_seq, m_left, m_right, m_done, m_again, m_field}
 use Rattle.theory.specs.Spans.{first_end, greatest_end, leftmost, greedy_by, posix_by, greedy, posix}
@@ -128,7 +128,7 @@ module _ (w : List ℕ) where
   star_plain how f h zero i = refl
   star_plain how f h (suc d) i =
       ap (λ l. then_leave how l i)
-      (replace_congr {f = λ k. after_turn i k (star_outcomes how f d k)} {f' = λ k. when (ltb i k) (base_star how f d k)} {l = f i} (all_map (λ k c. rw (T_true (ltb i k) (lt→ltb i k c)) (star_plain how f h d k)) (λ p c. refl) (h i)))
+      (replace_congr {f = λ k. after_turn i k (star_outcomes how f d k)} {f' = λ k. when (ltb i k) (base_star how f d k)} {g = want} {g' = want} {l = f i} (all_map (λ k c. rw (T_true (ltb i k) (lt→ltb i k c)) (star_plain how f h d k)) (λ p c. refl) (h i)))
 
   -- THE LIST OF A PLAIN PATTERN IS AS IT WAS.
   pub plain_base : (r : Re) → Plain r → (i : ℕ) → outcomes r w i ≡ base r w i

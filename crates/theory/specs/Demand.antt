@@ -1,7 +1,7 @@
 -- Demand 2 in its words, over source 000's matching relation.
 -- Assumes nothing.
 use Rattle.std.specs.Prelude.{◌≡◌, ℕ, ◌≤◌, ◌<◌, List, length}
-use Rattle.std.proofs.Math.Option.{Option, some}
+use Rattle.std.proofs.Math.Option.{some}
 use Rattle.theory.specs.Pattern.{Re}
 use Rattle.theory.specs.Outcomes.{outcomes}
 use Rattle.theory.specs.Matching.{Matches}
