@@ -26,7 +26,7 @@ pub const AREA: usize = 1024;
 const LONGEST: usize = 20417;
 
 // What is asked for a pattern.
-#[derive(Drop)]
+#[derive(Clone, Copy)]
 pub enum Asked {
     // the verdict
     Verdict,

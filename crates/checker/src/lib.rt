@@ -15,7 +15,7 @@ use reader::Answer;
 use search::{Looking, Progress};
 
 // The verdict, or the refusal with the papers' number and place.
-#[derive(Drop)]
+#[derive(Clone, Copy)]
 pub enum Verdict {
     // no line is cut differently: the number of records, 0 if the test settled it
     Alike { count: usize },
@@ -25,7 +25,7 @@ pub enum Verdict {
 }
 
 // A verdict, and how much looking through the records it took.
-#[derive(Drop)]
+#[derive(Clone, Copy)]
 pub struct Report {
     pub verdict: Verdict,
     pub looking: Looking,

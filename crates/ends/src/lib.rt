@@ -9,7 +9,7 @@ ghost use Rattle.ends.specs.Ends.{place_of, Last, SameLeaves, SameIf, Ended};
 use standing::Standing;
 
 // A place of the line if `some` is 1, or none. Numbers only, so that the struct goes through registers.
-#[derive(Drop)]
+#[derive(Clone, Copy)]
 pub struct End {
     pub some: usize,
     pub at: usize,

@@ -10,7 +10,7 @@ use reader::Answer;
 
 // The greedy span of a line, if `found` is 1, and its fields: field f begins at places[f - 1] and ends at places[f + 7], if bits f - 1 and f + 7 of `known` are 1, and
 // is absent if they are 0.
-#[derive(Drop)]
+#[derive(Clone, Copy)]
 pub struct Piece {
     pub found: usize,
     pub start: usize,
@@ -20,14 +20,14 @@ pub struct Piece {
 }
 
 // The answer, 12 among its refusals, and how many fields the pattern has; a refused one has none.
-#[derive(Drop)]
+#[derive(Clone, Copy)]
 pub struct Prepared {
     pub answer: Answer,
     pub count: usize,
 }
 
 // The same with the cut of a line; that of a refused pattern is none.
-#[derive(Drop)]
+#[derive(Clone, Copy)]
 pub struct Reply {
     pub answer: Answer,
     pub count: usize,

@@ -8,7 +8,7 @@ ghost use Rattle.jobs.specs.Job.{lines_of, between, JobOf};
 pub const PATTERNS: usize = 8;
 
 // How many patterns there are, and where in a text each of the first eight begins and ends.
-#[derive(Drop)]
+#[derive(Clone, Copy)]
 pub struct Job {
     pub count: usize,
     pub starts: [usize; 8],

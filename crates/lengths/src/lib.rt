@@ -7,14 +7,14 @@ ghost use Rattle.lengths.specs.Lengths.{together, copies, endless, no_byte, one_
 ghost use Rattle.lengths.specs.Code.{longest_of, is_limited, bytes_of, meaning, of_both, cap, cap_longest, capped};
 
 // A greatest length: a number of bytes, or none is the greatest.
-#[derive(Drop)]
+#[derive(Clone, Copy)]
 pub enum Greatest {
     Limit { bytes: usize },
     NoLimit,
 }
 
 // How long a match can be.
-#[derive(Drop)]
+#[derive(Clone, Copy)]
 pub struct Lengths {
     pub least: usize,
     pub greatest: Greatest,

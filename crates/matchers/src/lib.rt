@@ -5,7 +5,7 @@ ghost use Rattle.matchers.specs.Tables.{tables};
 ghost use Rattle.matchers.specs.Cuts.{Cuts};
 
 // Both spans of a line: nowhere, or one start with the greedy and the POSIX end.
-#[derive(Drop)]
+#[derive(Clone, Copy)]
 pub enum Spans {
     Nowhere,
     Located {

@@ -19,7 +19,7 @@ pub const AREA: usize = 1024;
 const PAIRS: usize = 4096;
 
 // How the test ends.
-#[derive(Drop)]
+#[derive(Clone, Copy)]
 pub enum Ending {
     // no matched string extends to a longer matched one
     Passes,

@@ -10,7 +10,7 @@ ghost use Rattle.queries.specs.Query.{starts, is_word, word_of, query_of, Loads}
 pub const ENTRIES: usize = 512;
 
 // Which table is loaded.
-#[derive(Drop)]
+#[derive(Clone, Copy)]
 pub enum Loading {
     Fixed,
     // the line's own, with so many entries, and where the word stands
@@ -20,7 +20,7 @@ pub enum Loading {
 }
 
 // What is asked.
-#[derive(Drop)]
+#[derive(Clone, Copy)]
 pub enum Query {
     // both spans of order lines; where the pattern stands
     Spans { at: usize },

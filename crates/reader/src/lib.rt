@@ -20,7 +20,7 @@ use scanner::{Class, Count};
 use sets::Checked;
 
 // The reader's answer: accepted, or refused with the papers' number and place.
-#[derive(Drop)]
+#[derive(Clone, Copy)]
 pub enum Answer {
     Accepted,
     Refused { number: u8, place: usize },
@@ -36,35 +36,35 @@ pub struct Reading {
 }
 
 // What a part weighs, ABOVE_LIMIT for any weight above the limit, and how long its matches can be.
-#[derive(Drop)]
+#[derive(Clone, Copy)]
 pub struct Size {
     pub weight: usize,
     pub lengths: Lengths,
 }
 
 // What reading from a place finds: the place after it, and its size; or the refusal.
-#[derive(Drop)]
+#[derive(Clone, Copy)]
 pub enum Part {
     Read { at: usize, size: Size },
     Refused { number: u8, place: usize },
 }
 
 // What was found, and how many codes the array then holds.
-#[derive(Drop)]
+#[derive(Clone, Copy)]
 pub struct Step {
     pub part: Part,
     pub len: usize,
 }
 
 // The opening brackets of the text: how many there are, and the place of the ninth, or 0 if there are fewer.
-#[derive(Drop)]
+#[derive(Clone, Copy)]
 pub struct Brackets {
     pub count: usize,
     pub ninth: usize,
 }
 
 // A step with the brackets up to where it ends.
-#[derive(Drop)]
+#[derive(Clone, Copy)]
 pub struct Walk {
     pub part: Part,
     pub len: usize,
@@ -72,7 +72,7 @@ pub struct Walk {
 }
 
 // The answer to a text, and of an accepted one how many codes the array holds, its brackets and its lengths.
-#[derive(Drop)]
+#[derive(Clone, Copy)]
 pub struct Text {
     pub answer: Answer,
     pub len: usize,

@@ -10,7 +10,7 @@ use matchers::Spans;
 use reader::Answer;
 
 // The reader's answer beside both spans; those of a refused pattern are none.
-#[derive(Drop)]
+#[derive(Clone, Copy)]
 pub struct Reply {
     pub answer: Answer,
     pub spans: Spans,

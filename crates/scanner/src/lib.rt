@@ -14,7 +14,7 @@ ghost use Rattle.scanner.specs.Parts.{begins, named_or, InnerFound, RangeFound, 
 const MOST_TIMES: usize = 63;
 
 // An item of a class, and the place after it.
-#[derive(Drop)]
+#[derive(Clone, Copy)]
 pub enum Item {
     Single { byte: u8, next: usize },
     Range { low: u8, high: u8, next: usize },
@@ -23,14 +23,14 @@ pub enum Item {
 }
 
 // The place after a class, if it is one.
-#[derive(Drop)]
+#[derive(Clone, Copy)]
 pub enum Class {
     Ends { next: usize },
     NoClass,
 }
 
 // A count, and the place after it.
-#[derive(Drop)]
+#[derive(Clone, Copy)]
 pub enum Count {
     Exactly {
         times: usize,
@@ -49,21 +49,21 @@ pub enum Count {
 }
 
 // A byte of a class, bare or escaped, and the place after it.
-#[derive(Drop)]
+#[derive(Clone, Copy)]
 enum Inner {
     Is { value: u8, next: usize },
     NoByte,
 }
 
 // One or two digits, and the place after them.
-#[derive(Drop)]
+#[derive(Clone, Copy)]
 enum Number {
     Value { number: usize, next: usize },
     NoNumber,
 }
 
 // Items of a class: the place after them, and whether one of them holds the byte that is asked for.
-#[derive(Drop)]
+#[derive(Clone, Copy)]
 enum Listed {
     Upto { next: usize, holds: bool },
     Faulty,

@@ -6,7 +6,7 @@ ghost use Rattle.screen.specs.Shows.{Shows, Rewrites};
 use reader::Answer;
 
 // The answer, and how many groups the pattern has; a refused one has none.
-#[derive(Drop)]
+#[derive(Clone, Copy)]
 pub struct Counted {
     pub answer: Answer,
     pub count: usize,

@@ -13,7 +13,7 @@ ghost use Rattle.search.specs.Turns.{more, Turned, Grouping, Worked, Run};
 use standing::Standing;
 
 // How far the search has come.
-#[derive(Drop)]
+#[derive(Clone, Copy)]
 pub enum Progress {
     // that many records, and no witness among them
     Clear(usize),
@@ -24,14 +24,14 @@ pub enum Progress {
 }
 
 // How much looking a search takes: how many looks through the records, and how many records they compare. A number that would be above the greatest is this.
-#[derive(Drop)]
+#[derive(Clone, Copy)]
 pub struct Looking {
     pub looks: usize,
     pub comparisons: usize,
 }
 
 // How far the search has come, and the looking that it took.
-#[derive(Drop)]
+#[derive(Clone, Copy)]
 pub struct Course {
     pub progress: Progress,
     pub looking: Looking,

@@ -7,7 +7,7 @@ ghost use Rattle.seeking.specs.Places.{Kind, Passed, Lacks, Sought, One, Few, Ot
 ghost use Rattle.seeking.specs.Hows.{among, Finds};
 
 // How the bytes that a set of leaves takes are looked for.
-#[derive(Drop)]
+#[derive(Clone, Copy)]
 pub struct How {
     // by a look at each byte's leaves, by ONE byte, or by FEW
     pub way: u8,

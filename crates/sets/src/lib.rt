@@ -27,7 +27,7 @@ const PUNCT: u8 = 1;
 pub const ENTRIES: usize = 256;
 
 // What a table is: it passes its checks, or it fails at its lowest failing entry, or at 256 if it has not 256 entries.
-#[derive(Drop)]
+#[derive(Clone, Copy)]
 pub enum Checked {
     Usable,
     Faulty { place: usize },

@@ -8,7 +8,7 @@ ghost use Rattle.standing.specs.Stands.{arrays, First, Carried};
 ghost use Rattle.standing.specs.Reads.{gathered, Sound, Read, Fronts, Blank, row_of, outcomes_after};
 ghost use Rattle.standing.specs.Sets.{goes, Joined, Wanted};
 
-#[derive(Drop)]
+#[derive(Clone, Copy)]
 pub struct Standing {
     // (a): the first n of the list
     pub list: [u8; 64],
@@ -22,7 +22,7 @@ pub struct Standing {
 }
 
 // The leaves before the first end, as they are gathered from outcomes: the first n of a list that is lent beside it, so that no list is copied on the way.
-#[derive(Drop)]
+#[derive(Clone, Copy)]
 struct Front {
     n: usize,
     // the same leaves as bits
@@ -32,7 +32,7 @@ struct Front {
 }
 
 // All wanted leaves, and whether there is an end.
-#[derive(Drop)]
+#[derive(Clone, Copy)]
 struct Wants {
     all: u64,
     some: bool,

@@ -14,7 +14,7 @@ use ends::End;
 use seeking::How;
 
 // A span if `some` is 1, or none. Numbers only, so that the struct goes through registers.
-#[derive(Drop)]
+#[derive(Clone, Copy)]
 pub struct Best {
     pub some: usize,
     pub start: usize,
@@ -35,7 +35,7 @@ impl Best {
 }
 
 // The blocks that a byte has carried on so far: how many, and their leaves. Closed is 1 if a block got an end: it closes all later ones, and its span is the best.
-#[derive(Drop)]
+#[derive(Clone, Copy)]
 struct Carry {
     n: usize,
     taken: u64,

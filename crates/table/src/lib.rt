@@ -6,7 +6,7 @@ ghost use Rattle.table.specs.Slots.{slot_count, put, loaded, origin_at, byte_at}
 ghost use Rattle.table.specs.Looks.{first_unequal, comparison_end, look};
 
 // What a look through the records hands back.
-#[derive(Drop)]
+#[derive(Clone, Copy)]
 pub struct Look {
     // whether a record has the standing
     pub found: bool,

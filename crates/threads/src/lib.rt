@@ -10,7 +10,7 @@ ghost use Rattle.threads.specs.Reads.{state, Sound, LeafEntered};
 ghost use Rattle.threads.specs.Steps.{RowRead, LeafRead, Stepped, Passed};
 
 // The way that is preferred, if `some` is 1. places[f - 1] is where it last opened the field f and places[f + 7] where it last closed it, each if its bit in `known` is 1.
-#[derive(Drop)]
+#[derive(Clone, Copy)]
 pub struct Way {
     pub some: usize,
     pub end: usize,

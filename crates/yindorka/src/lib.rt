@@ -16,7 +16,7 @@ use sets::Checked;
 
 // Number 0 for an accepted pattern, else paper 01's number and place.
 #[repr(C)]
-#[derive(Drop)]
+#[derive(Clone, Copy)]
 pub struct Refusal {
     pub number: usize,
     pub place: usize,
@@ -24,7 +24,7 @@ pub struct Refusal {
 
 // Number 0 for an accepted pattern, with how many fields or groups it has, or bytes its records; else paper 01's number, or 12 for fields, and the place.
 #[repr(C)]
-#[derive(Drop)]
+#[derive(Clone, Copy)]
 pub struct Counted {
     pub number: usize,
     pub place: usize,
@@ -33,7 +33,7 @@ pub struct Counted {
 
 // Number 0 for an accepted pattern, with the least length of a match and, if `limited` is 1, the greatest; 0 there is no limit. Else paper 01's number and place.
 #[repr(C)]
-#[derive(Drop)]
+#[derive(Clone, Copy)]
 pub struct Lengths {
     pub number: usize,
     pub place: usize,
@@ -44,7 +44,7 @@ pub struct Lengths {
 
 // The greedy span if `found` is 1; bit f - 1 of `known` if its field f has a start, bit f + 7 if it has an end.
 #[repr(C)]
-#[derive(Drop)]
+#[derive(Clone, Copy)]
 pub struct Spanned {
     pub found: usize,
     pub start: usize,
@@ -54,7 +54,7 @@ pub struct Spanned {
 
 // Kind 0, alike: the count. Kind 1, unlike: the count and the witness's length. Kind 2, refused: number and place.
 #[repr(C)]
-#[derive(Drop)]
+#[derive(Clone, Copy)]
 pub struct Outcome {
     pub kind: usize,
     pub first: usize,
@@ -63,7 +63,7 @@ pub struct Outcome {
 
 // The same, with how many looks through the records the check took, and how many records they compared.
 #[repr(C)]
-#[derive(Drop)]
+#[derive(Clone, Copy)]
 pub struct Looking {
     pub kind: usize,
     pub first: usize,
