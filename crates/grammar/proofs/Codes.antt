@@ -9,15 +9,15 @@ use native.Mathlib.Omega.{arith}
 use native.Mathlib.Decide.{dec_lt}
 use lib.Dec.{eqb, ltb}
 use borrow.Author.Tests.{lt-ltb, le-ltb}
-use Rattle.theory.specs.Pattern.{Manner, eager, lazy, Re, star, field, opt}
-use Rattle.grammar.specs.Grammar.{plain, escaped, Item, many, byte, dot, class, Kind, ordinary, kind}
+use Rattle.theory.specs.Pattern.{Manner, eager, lazy, Re, star, opt}
+use Rattle.grammar.specs.Grammar.{plain, escaped, Item, byte, dot, class, Kind, ordinary, kind}
 use Rattle.grammar.specs.Sets.{in_named, in_class}
 use Rattle.grammar.specs.WriteOut.{chain, optional, bracketed, shape, shape_atom}
 use Rattle.grammar.specs.Brackets.{max_fields}
 use Rattle.grammar.specs.Code.Reader.{found, read_class}
 use Rattle.grammar.specs.Code.Tokens.{both, tokens, blocks}
 use Rattle.grammar.specs.Code.Tokens
-use Rattle.grammar.specs.Code.Codes.{PartKind, a_star, a_field, aLeaf, part_kind, first_field, first_leaf, leaf_by, found_holds, leaf_holds, token_by, token_of, exactly_codes, star_of, at_least_codes, lead_codes, shut_codes, close_codes, between_codes}
+use Rattle.grammar.specs.Code.Codes.{a_star, a_field, aLeaf, part_kind, first_field, first_leaf, leaf_by, found_holds, leaf_holds, token_by, token_of, exactly_codes, star_of, at_least_codes, lead_codes, shut_codes, close_codes, between_codes}
 use Rattle.grammar.proofs.Suffix.{blocks_append, lead, shut, closes, tokens_optional, tokens_copies}
 
 pub kind_star : (how : Manner) → part_kind (star_of how) ≡ a_star how

@@ -7,9 +7,9 @@ use mathlib.Core.List.{List, [], ◌∷◌}
 use native.Mathlib.Omega.{arith}
 use lib.ListN.{length}
 use lib.Dec.{leb, ltb, le→leb, lt→ltb, leb→le}
-use Rattle.grammar.specs.Grammar.{plain, escaped, Repeat, once, many, more, maybe, exactly, at_least, between, lazily, unmarked, Alternation, last, or, Sequence, nothing, part, Atom, byte, dot, class, group, Kind, ordinary, backslash, bar, opener, closer, bracket, brace, period, stray, sign, kind, special, digits_text, repeat_text, alternation, sequence, atom, WfAlternation, WfSequence, WfAtom, WfRepeat}
+use Rattle.grammar.specs.Grammar.{plain, escaped, Repeat, once, many, more, maybe, exactly, at_least, between, lazily, Alternation, last, or, Sequence, nothing, part, Atom, byte, dot, class, group, Kind, ordinary, backslash, bar, opener, closer, bracket, brace, period, stray, sign, kind, special, digits_text, repeat_text, alternation, sequence, atom, WfAlternation, WfSequence, WfAtom, WfRepeat}
 use Rattle.grammar.specs.Limits.{depth, depth_sequence, depth_atom, heaviest, Reads}
-use Rattle.grammar.specs.Before.{Before, start, barred, opened, after, text, opens, is_once, ready, softens, WfBefore}
+use Rattle.grammar.specs.Before.{Before, start, barred, opened, after, text, opens, ready, softens, WfBefore}
 use Rattle.grammar.specs.Code.Reader.{Parsed, found, missing, read_class, read_count, Gathered, whole, within, front, gather, Move, on, stop, put, soften, is_maybe, add_atom, add_count, add_group, step, place, ended, moved, loop, read}
 use Rattle.grammar.specs.Refusals.{Answer, accepted, refused, ClassAt, CountAt, Wrong, unopened, bare, unready_sign, unready_count, escape_last, escape_ordinary, no_class, no_count, too_deep, left_open, Fault, too_long, wrong, too_heavy, Right}
 use Rattle.grammar.proofs.Texts.{len_repeat, not_once}

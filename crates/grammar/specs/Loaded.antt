@@ -1,7 +1,7 @@
 -- "The carrier's own named sets" (request 9 of paper 02): when a table of named sets passes its checks, and what is accepted and refused with it.
 -- Assumes nothing.
 use Rattle.std.specs.Prelude.{◌≡◌, ◌≢◌, ℕ, ◌<◌, Bool, true, false, not, ◌&&◌, ◌||◌, List, length, get_or}
-use Rattle.grammar.specs.Grammar.{Alternation, Name, alpha, digit, alnum, upper, lower, xdigit, space, punct}
+use Rattle.grammar.specs.Grammar.{Alternation, alpha, digit, alnum, upper, lower, xdigit, space, punct}
 use Rattle.grammar.specs.Limits.{Reads}
 use Rattle.grammar.specs.Sets.{has_set}
 use Rattle.grammar.specs.Refusals.{Fault, Answer, accepted, refused}
