@@ -48,7 +48,7 @@ module _ {C : Type 0} (mark : Mark → C → C) where
   star_enough how f n h (suc d) zero i v p q = absurd (omega arith)
   star_enough how f n h (suc d) (suc e) i v p q =
       ap (λ l. then_leave how l i v)
-      (replace_congr (f i v) (h i v)
+      (replace_congr {g = want} {g' = want} (f i v) (h i v)
       (λ k u b. after_turn_congr i k u λ t. star_enough how f n h d e k u (omega (arith, ltb→lt i k t)) (omega (arith, ltb→lt i k t)))
       (λ p u b. refl))
 
@@ -57,7 +57,7 @@ module _ {C : Type 0} (mark : Mark → C → C) where
   unfolding carried star_outcomes
   carried_star how x w i v =
       ap (λ l. then_leave how l i v)
-      (replace_congr (carried mark x w i v) (carried_all x w i v)
+      (replace_congr {g = want} {g' = want} (carried mark x w i v) (carried_all x w i v)
       (λ k u b. after_turn_congr i k u λ t. star_enough how (carried mark x w) (length w) (carried_all x w) (length w) (suc (length w)) k u (omega (arith, ltb→lt i k t)) (omega arith))
       (λ p u b. refl))
 
@@ -72,12 +72,12 @@ module _ {C : Type 0} (mark : Mark → C → C) where
   unfolding carried start
   carried_end empty w v = refl
   carried_end (leaf p s) w v = rw (drop-length w)
-  carried_end (seq x y) w v = rw (carried_end x w v) (replace_congr (start mark x (length w) v) (start_all x (length w) v) (λ k u e. rw e (carried_end y w u)) (λ p u e. refl))
+  carried_end (seq x y) w v = rw (carried_end x w v) (replace_congr {g = want} {g' = want} (start mark x (length w) v) (start_all x (length w) v) (λ k u e. rw e (carried_end y w u)) (λ p u e. refl))
   carried_end (alt x y) w v = rw (carried_end x w v, carried_end y w v)
   carried_end (star how x) w v =
       carried_star how x w (length w) v
       ∙ rw (carried_end x w v)
-      (ap (λ l. then_leave how l (length w) v) (replace_congr (start mark x (length w) v) (start_all x (length w) v) (λ k u e. rw (e, le-ltb (length w) (length w) (omega arith))) (λ p u e. refl)))
+      (ap (λ l. then_leave how l (length w) v) (replace_congr {g = want} {g' = want} (start mark x (length w) v) (start_all x (length w) v) (λ k u e. rw (e, le-ltb (length w) (length w) (omega arith))) (λ p u e. refl)))
   carried_end (field f x) w v = rw (carried_end x w (mark (opened f (length w)) v))
 
   -- A part without the leaf p has no row for it, and a part's row is made of that of the one below that has the leaf.
@@ -120,7 +120,7 @@ module _ {C : Type 0} (mark : Mark → C → C) where
   grow_congr : (b n : ℕ) (x y : Re) {P Q : ℕ → Type 0} (l : List (Carried C)) → ((p : ℕ) (v : C) → Q p → after mark x b p (suc n) v ≡ after mark y b p (suc n) v)
       → AllOut P Q (plain l) → grow x b n l ≡ grow y b n l
   unfolding grow
-  grow_congr b n x y l e h = replace_congr l h (λ k v c. refl) e
+  grow_congr b n x y l e h = replace_congr {f = end} {f' = end} l h (λ k v c. refl) e
 
   grow_after_turn : (r : Re) (b n i k : ℕ) (v : C) (l : List (Carried C)) → grow r b n (after_turn i k v l) ≡ after_turn i k v (grow r b n l)
   unfolding grow
@@ -175,7 +175,7 @@ module _ {C : Type 0} (mark : Mark → C → C) where
           (carried mark x w i v) (carried_all x w i v)
           (λ k u c. after_turn_congr i k u (λ t. extend_star d k u (omega (arith, ltb→lt i k t)) (omega arith)) ∙ sym (grow_after_turn (star how x) b (length w) i k u _))
           (λ p u q.
-          replace_congr (after mark x b p (suc (length w)) u) (after_all x b p (suc (length w)) u)
+          replace_congr {g = want} {g' = want} (after mark x b p (suc (length w)) u) (after_all x b p (suc (length w)) u)
           (λ k t e. rw (e, lt-ltb i (suc (length w)) (omega arith)) (past (star how x) t)) (λ p t c. refl)
           ∙ sym (after_star b p (suc (length w)) u how x))))
 
@@ -190,7 +190,7 @@ module _ {C : Type 0} (mark : Mark → C → C) where
         (λ k u c. extend y (n + count x) d.1 k u (omega arith)
         ∙ grow_congr b (length w) y (seq x y) (carried mark y w k u) (λ p t q. sym (after_seq_right b p (suc (length w)) t x y λ l. apart x y n d.0 d.1 l q)) (carried_all y w k u))
         (λ p u q.
-        replace_congr (after mark x b p (suc (length w)) u) (after_all x b p (suc (length w)) u) (λ k t e. rw e (past y t)) (λ p t c. refl)
+        replace_congr {g = want} {g' = want} (after mark x b p (suc (length w)) u) (after_all x b p (suc (length w)) u) (λ k t e. rw e (past y t)) (λ p t c. refl)
         ∙ sym (after_seq_left b p (suc (length w)) u x y (apart x y n d.0 d.1 q))))
     extend (alt x y) n d i v h =
         rw (replace_append, extend x n d.0 i v h, extend y (n + count x) d.1 i v h)

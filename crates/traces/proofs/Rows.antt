@@ -5,7 +5,7 @@ use Prim.Native.Nat.{ℕ}
 use mathlib.Core.Bool.{Bool, true, false}
 use mathlib.Core.List.{List, [], ◌∷◌}
 use lib.Dec.{eqb}
-use Rattle.theory.specs.Pattern.{Manner, eager, lazy, Re, empty, leaf, seq, alt, star, field, has}
+use Rattle.theory.specs.Pattern.{Re, empty, leaf, seq, alt, star, field, has}
 use Rattle.theory.specs.Outcomes.{Outcome, empty_turn, when}
 use Rattle.theory.specs.Outcomes as Plain
 use Rattle.theory.specs.Code.Follow.{Next}
@@ -14,7 +14,7 @@ use Rattle.theory.proofs.Outcomes.{AllOut}
 use Rattle.theory.proofs.Outcomes as Plain-laws
 use Rattle.theory.proofs.Turns.{replace_empty_turn, replace_then_leave}
 use Rattle.theory.proofs.Extend.{place}
-use Rattle.traces.specs.Traces.{Mark, opened, ends_at, wants, end, and_then, plain, carry, then_leave, close}
+use Rattle.traces.specs.Traces.{Mark, opened, end, and_then, plain, carry, close}
 use Rattle.traces.specs.Code.Rows.{start, follow, after}
 use Rattle.traces.proofs.Lists.{plain_append, plain_carry, plain_and_then}
 use Rattle.traces.proofs.Forget.{plain_then_leave}
@@ -44,7 +44,7 @@ module _ {C : Type 0} (mark : Mark → C → C) where
       ∙ rw (plain_start x n v) (place_on n (λ k. place k (Plain-rows.start y)) (Plain-rows.start y) refl (Plain-rows.start x))
   plain_start (alt x y) n v =
       plain_append (start mark x n v) (start mark y n v)
-      ∙ rw (plain_start x n v, plain_start y n v) (sym (Plain-laws.replace_append _ _ (Plain-rows.start x) (Plain-rows.start y)))
+      ∙ rw (plain_start x n v, plain_start y n v) (sym (Plain-laws.replace_append (λ _. Outcome.ends_at n ∷ []) Plain.want (Plain-rows.start x) (Plain-rows.start y)))
   plain_start (star how x) n v =
       plain_then_leave how (and_then (start mark x n v) (λ k u. carry u (empty_turn k))) n v
       ∙ ap (λ l. Plain.then_leave how l n)
@@ -71,10 +71,10 @@ module _ {C : Type 0} (mark : Mark → C → C) where
         plain_follow y p n v,
         place_on n (λ k. place k (Plain-rows.start y)) (Plain-rows.start y) refl (Plain-rows.follow x p),
       )
-      (sym (Plain-laws.replace_append _ _ (Plain.and_then (Plain-rows.follow x p) (λ _. Plain-rows.start y)) (Plain-rows.follow y p)))
+      (sym (Plain-laws.replace_append (λ _. Outcome.ends_at n ∷ []) Plain.want (Plain.and_then (Plain-rows.follow x p) (λ _. Plain-rows.start y)) (Plain-rows.follow y p)))
   plain_follow (alt x y) p n v =
       plain_append (follow mark x p n v) (follow mark y p n v)
-      ∙ rw (plain_follow x p n v, plain_follow y p n v) (sym (Plain-laws.replace_append _ _ (Plain-rows.follow x p) (Plain-rows.follow y p)))
+      ∙ rw (plain_follow x p n v, plain_follow y p n v) (sym (Plain-laws.replace_append (λ _. Outcome.ends_at n ∷ []) Plain.want (Plain-rows.follow x p) (Plain-rows.follow y p)))
   plain_follow (star how x) p n v =
       plain_and_then (start mark (star how x)) (λ k. place k (Plain-rows.start (star how x))) (plain_start (star how x)) (follow mark x p n v)
       ∙ rw (plain_follow x p n v) (place_on n (λ k. place k (Plain-rows.start (star how x))) (Plain-rows.start (star how x)) refl (Plain-rows.follow x p))
