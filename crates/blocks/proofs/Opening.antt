@@ -2,9 +2,9 @@
 -- Assumes nothing.
 use mathlib.Core.Path.{◌≡◌, refl, sym, ap, ap₂, ◌∙◌, subst}
 use Prim.Native.Nat.{ℕ, zero, suc, ◌+◌, ◌-◌, ◌≤◌, ◌<◌}
-use mathlib.Core.Bool.{Bool, true, false, cond, true≢false}
+use mathlib.Core.Bool.{false, cond, true≢false}
 use mathlib.Core.List.{List, [], ◌∷◌, ◌++◌}
-use mathlib.Core.Option.{Option, none, some}
+use mathlib.Core.Option.{none, some}
 use native.Mathlib.Omega.{arith}
 use native.Mathlib.Decide.{dec_lt}
 use lib.ListN.{length, drop, get_or, drop_of_length-le}
@@ -16,7 +16,6 @@ use Rattle.theory.specs.Spans.{nowhere, span_or}
 use Rattle.theory.specs.Standing.{wanted, member, set_of}
 use Rattle.theory.specs.Code.Follow.{has_end, after, follow}
 use Rattle.theory.specs.Code.Next.{afters}
-use Rattle.theory.specs.Code.Members.{any}
 use Rattle.theory.proofs.Tests.{T_true, not_true, or_left, or_right}
 use Rattle.theory.proofs.Members.{any_found, any_of, Within}
 use Rattle.theory.proofs.Step.{afters_end}

@@ -9,7 +9,7 @@ use native.Mathlib.Omega.{arith}
 use lib.ListN.{length, drop}
 use Rattle.theory.specs.Pattern.{Re, Numbered}
 use Rattle.theory.specs.Outcomes.{outcomes}
-use Rattle.theory.specs.Spans.{Span, nowhere, span, span_or, leftmost, greatest_end, posix}
+use Rattle.theory.specs.Spans.{nowhere, span_or, leftmost, greatest_end, posix}
 use Rattle.theory.specs.Standing.{Standing, standing}
 use Rattle.theory.specs.Code.Follow.{start, has_end}
 use Rattle.theory.specs.Code.Next.{next}

@@ -7,9 +7,9 @@ use Rattle.theory.specs.Code.Members.{Once}
 use Rattle.blocks.specs.Blocks.{Block}
 
 -- The leaves of the blocks.
-abbrev pub leavesOf : List Block → List ℕ
-leavesOf [] = []
-leavesOf (x ∷ l) = x.leaves ++ leavesOf l
+abbrev pub leaves_of : List Block → List ℕ
+leaves_of [] = []
+leaves_of (x ∷ l) = x.leaves ++ leaves_of l
 
 -- Each block has a leaf.
 abbrev pub Full : List Block → Type 0
@@ -19,5 +19,5 @@ Full (x ∷ l) = (0 < length x.leaves) × Full l
 -- The blocks' sets are not empty, and no leaf of the pattern is in two.
 pub record Apart (r : Re) (l : List Block) : Type 0 where
   pub full : Full l
-  pub once : Once (leavesOf l)
-  pub below : (p : ℕ) → T (member p (leavesOf l)) → p < count r
+  pub once : Once (leaves_of l)
+  pub below : (p : ℕ) → T (member p (leaves_of l)) → p < count r

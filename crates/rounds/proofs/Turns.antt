@@ -8,7 +8,7 @@ use mathlib.Core.Option.{Option, none, some, some-ne-none}
 use native.Mathlib.Omega.{arith}
 use native.Mathlib.Nat.{suc-mul}
 use native.Mathlib.Decide.{dec_lt}
-use lib.Dec.{T, eqb, ltb, eqb→eq, eqb_refl, ltb→lt, lt→ltb}
+use lib.Dec.{T, eqb, eqb→eq, eqb_refl, ltb→lt, lt→ltb}
 use Rattle.theory.proofs.Tests.{T_true, not_true}
 use Rattle.rounds.specs.Round.{after, Round, undecided, served, after_turn, turn, turns, total}
 use Rattle.rounds.proofs.Round.{on, after_below, on_below, on_add, on_each, First, first_is_lem, first_found, first_none}
