@@ -12,7 +12,7 @@ use Rattle.grammar.specs.Grammar.{Alternation}
 use Rattle.grammar.specs.Limits.{Reads}
 use Rattle.grammar.specs.WriteOut.{write_out}
 use Rattle.grammar.proofs.Size.{leaves_64}
-use Rattle.lengths.specs.Lengths.{Longest, limit, no_limit, Extent, lengths, LengthBetween}
+use Rattle.lengths.specs.Lengths.{Longest, limit, no_limit, lengths, LengthBetween}
 use Rattle.lengths.specs.Code.{cap_longest, capped}
 use Rattle.lengths.specs.Written.{extent, any_byte, Filled, Matched, Reached}
 use Rattle.lengths.proofs.Sums.{extents}

@@ -3,7 +3,7 @@
 use mathlib.Core.Path.{◌≡◌, refl}
 use Prim.Native.Nat.{ℕ}
 use mathlib.Core.Bool.{true}
-use mathlib.Core.List.{[], ◌∷◌}
+use mathlib.Core.List.{[]}
 use Rattle.grammar.specs.Grammar.{plain, range, one, Repeat, once, many, more, maybe, exactly, at_least, between, lazily, Alternation, last, or, nothing, part, Atom, byte, class, group}
 use Rattle.lengths.specs.Lengths.{Longest, limit, no_limit, lengths}
 

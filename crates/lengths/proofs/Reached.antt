@@ -75,8 +75,8 @@ one_byte c h = record { line = c.0 ∷ []; bytes = (c.1, tt); whole = m_leaf {i 
 
 turns : {how : Manner} {x : Re} → Matched x (λ n. 0 < n) → (k : ℕ) → Matched (star how x) (λ n. k ≤ n)
 turns m zero = no_turn (omega arith)
-turns m (suc k) =
-    let c = turns m k in
+turns {how} {x} m (suc k) =
+    let c = turns {how = how} {x = x} m k in
     let h = m.size in
     let g = c.size in
     record {

@@ -1,7 +1,7 @@
 -- The least and the greatest length of a tree are those of its written-out pattern.
 -- Assumes nothing.
 use mathlib.Core.Path.{◌≡◌, refl, sym, ap, ap₂, ◌∙◌}
-use Prim.Native.Nat.{ℕ, zero, suc, ◌+◌, ◌*◌, ◌-◌}
+use Prim.Native.Nat.{ℕ, zero, suc, ◌+◌, ◌-◌}
 use mathlib.Core.Bool.{Bool}
 use mathlib.Core.List.{List, [], ◌∷◌, ◌++◌}
 use native.Mathlib.Omega.{arith}
@@ -13,7 +13,7 @@ use Rattle.grammar.specs.Sets.{in_named}
 use Rattle.grammar.specs.Brackets.{brackets_within, brackets_atom}
 use Rattle.grammar.specs.WriteOut.{chain, optional, repeat_by, bracketed, shape, parts, shape_atom, write_out}
 use Rattle.grammar.proofs.Size.{count_sum, measure_bracketed}
-use Rattle.lengths.specs.Lengths.{copies, endless, Extent, no_byte, in_row, one_of, up_to, or_more, under_repeat, lengths, lengths_within, lengths_atom}
+use Rattle.lengths.specs.Lengths.{copies, Extent, in_row, one_of, up_to, or_more, under_repeat, lengths, lengths_within, lengths_atom}
 use Rattle.lengths.specs.Written.{extent}
 use Rattle.lengths.proofs.Sums.{extents, plus_zero, greater_zero, zero_greater, copies_add, copies_endless, row_none, total, total_append, total_chain}
 
