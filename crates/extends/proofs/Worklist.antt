@@ -21,7 +21,7 @@ adds_cons : (y : ℕ) (l : List ℕ) → Adds (λ x. member x l) (λ x. x ≡ y)
 adds_cons y l =
     record {
       old = λ x t. or_right (eqb x y) (member x l) t;
-      new = λ x e. rw e (or_left (eqb y y) (member y l) (eqb_refl y));
+      new = λ x e. subst (λ z. T (member z (y ∷ l))) (sym e) (or_left (eqb y y) (member y l) (eqb_refl y));
       cases = λ x t. either (λ e. inr (eqb→eq x y e)) inl (or_cases (eqb x y) (member x l) t);
     }
 
@@ -57,7 +57,7 @@ module _ (Begin : ℕ → Type 0) (Step : ℕ → ℕ → Type 0) where
           let fresh : T (member y s.marked) → ⊥ = λ t. true≢false (sym (T_true (member y s.marked) t) ∙ e) in
           record {
             closing =
-                closing_owe (closing_mark g.closing (λ x q. rw q (or_left (eqb y y) (member y l) (eqb_refl y))) (adds_cons y s.marked) (adds_cons y s.pending))
+                closing_owe (closing_mark g.closing (λ x q. subst (λ z. T (member z (y ∷ l))) (sym q) (or_left (eqb y y) (member y l) (eqb_refl y))) (adds_cons y s.marked) (adds_cons y s.pending))
                 (λ x t. either (λ q. inl (or_left (eqb x y) (member x s.marked) q)) inr (or_cases (eqb x y) (member x l) t))
                 (λ x t. or_right (eqb x y) (member x l) t);
             taken = taken_mark g.taken (λ x q t. fresh (subst (λ z. T (member z s.marked)) q t)) (adds_cons y s.marked) (adds_cons y s.pending);
@@ -104,7 +104,7 @@ module _ (N : ℕ) (first : ℕ → Bool) (step : ℕ → ℕ → Bool) where
       work_finds k (suc d) (omega arith) (mark_all s l).marked (mark_all s l).pending
       (going_all (Begins N first step) (Steps N first step) s l record {
         closing =
-            closing_owe (closing_take g.closing (λ y i. i) (λ y e. rw e p) drop)
+            closing_owe (closing_take g.closing (λ y i. i) (λ y e. subst (λ z. T (member z (x ∷ t))) (sym e) p) drop)
             (λ y (z, e, i). inr ((passing (step x) N y).0 (i.0, subst (λ v. T (step v y)) e i.1)))
             (λ y i. (x, refl, (passing (step x) N y).1 i));
         taken = taken_take g.taken x refl (g.closing.pending x p) p drop;
