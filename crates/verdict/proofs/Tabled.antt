@@ -20,7 +20,7 @@ use Rattle.grammar.proofs.Loaded.{accepts_or_refuses}
 use Rattle.grammar.proofs.Size.{write_out_numbered}
 use Rattle.verdict.specs.Record.{Form, form_of}
 use Rattle.verdict.specs.Table.{body, records_of, records, slots, onto}
-use Rattle.verdict.specs.Tabled.{Result, alike, unlike, refused, Whole, whole, Tabled, by_reader, by_records}
+use Rattle.verdict.specs.Tabled.{Result, unlike, refused, Whole, whole, Tabled, by_reader, by_records}
 use Rattle.verdict.specs.Code.Found.{Found, not_read, same_cuts, first_witness, no_slot, no_room}
 use Rattle.theory.proofs.Lines.{snoc_size, snoc_old}
 use Rattle.verdict.proofs.OneEnd.{Shown, alike_of, unlike_of, full_of, show, same_outcome}
