@@ -3,8 +3,7 @@
 
 ghost use Rattle.std.specs.Prelude.{◌≡◌, [], ◌∷◌, ◌++◌, cond, ◌<◌, min, take};
 ghost use Rattle.std.proofs.Math.Option.{some, none};
-ghost use Rattle.io.specs.Digits.{last_digits};
-ghost use Rattle.io.specs.Digits.{hex_digit_ascii as Digits·glyph};
+ghost use Rattle.io.specs.Digits.{last_digits, hex_digit_ascii};
 ghost use Rattle.printing.specs.Text.{Appended, Printed, room, hex, AlikeLine, UnlikeLine, RefusedLine, LimitText, LengthsText, AcceptedLine, Ahead, SpansLine, FieldsLine, pairs_of, ExplainedLine, LookingText, GroupsLine, none_line};
 ghost use Rattle.printing.specs.Puts.{Put, PutField, PutFields, PutPair, PutPairs, PutLine, Unended};
 
@@ -52,7 +51,7 @@ fn put_field(out: &mut [u8; 65536], n: usize, x: usize) -> usize
 
 fn glyph(d: u8) -> u8
     requires { d < 16 }
-    ensures { result ≡ Digits·glyph d }
+    ensures { result ≡ hex_digit_ascii d }
 {
     if d < 10 { b'0' + d } else { b'a' + (d - 10) }
 }
