@@ -4,19 +4,18 @@ use mathlib.Core.Path.{◌≡◌, refl, sym, ap, ap₂, ◌∙◌, subst}
 use mathlib.Core.Logic.{◌↔◌}
 use Prim.Native.Nat.{ℕ, zero, suc, ◌+◌, ◌-◌, ◌≤◌, ◌<◌}
 use mathlib.Core.Bool.{Bool, true, false, not, xor, cond, true≢false}
-use mathlib.Core.List.{List, [], ◌∷◌, ◌++◌, map}
+use mathlib.Core.List.{List, [], ◌∷◌, ◌++◌}
 use native.Mathlib.Omega.{arith}
 use native.Mathlib.Decide.{dec_lt}
 use lib.ListN.{length, get_or, replicate}
-use lib.Dec.{T, T_not, not_T, eqb, eqb→eq, eqb_refl}
+use lib.Dec.{T, T_not, not_T}
 use Rattle.theory.specs.Pattern.{Re, count, has, SameGroup}
 use Rattle.theory.specs.Standing.{member, from, filter}
 use Rattle.theory.specs.Code.Members.{any}
-use Rattle.theory.proofs.Tests.{T_true, true_T, not_true, same_test}
+use Rattle.theory.proofs.Tests.{true_T, not_true, same_test}
 use Rattle.theory.proofs.Members.{any_found, any_of, filter_of, filter_passes, member_from, length_from, map_from, from_append, from_snoc, filter_append, filter_size, from_range, filter_in}
-use Rattle.groups.specs.declared.Groups.{Groups}
 use Rattle.groups.specs.Numbers.{shares, place_of, is_lowest, lowest_below, lowest_bytes, number_of, numbers, groups_by, groups_of}
-use Rattle.groups.proofs.Lists.{Agree, any_agree, filter_agree, place_agree, map_agree, place_passes, member_place, place_member, chosen_upwards}
+use Rattle.groups.proofs.Lists.{any_agree, filter_agree, place_agree, map_agree, place_passes, member_place, place_member, chosen_upwards}
 
 -- To share a group is an equivalence.
 pub record Equivalence (share : ℕ → ℕ → Bool) : Type 0 where

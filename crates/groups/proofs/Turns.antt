@@ -3,14 +3,14 @@
 use mathlib.Core.Path.{◌≡◌, refl, sym, ap, ◌∙◌}
 use mathlib.Core.List.{List, [], ◌∷◌, ◌++◌, map, append-nil, map-append}
 use mathlib.Core.Bool.{Bool, true, false, not, cond, true≢false}
-use Prim.Native.Nat.{ℕ, suc, ◌+◌, ◌-◌, ◌≤◌, ◌<◌}
+use Prim.Native.Nat.{ℕ, suc, ◌+◌, ◌-◌, ◌<◌}
 use native.Mathlib.Omega.{arith}
 use lib.ListN.{length, get_or, set, replicate, get_or-append, length-map, length-append}
 use lib.Seq.{set_at, append_snoc}
-use lib.Dec.{T, eqb, eqb→eq, eqb_refl}
+use lib.Dec.{T, eqb→eq, eqb_refl}
 use Rattle.theory.specs.Standing.{from}
 use Rattle.theory.specs.Code.Members.{any}
-use Rattle.theory.proofs.Tests.{T_true, true_T, not_true}
+use Rattle.theory.proofs.Tests.{T_true, not_true}
 use Rattle.theory.proofs.Members.{any_found, any_of, member_from, length_from, map_from, from_range, filter_in}
 use Rattle.groups.specs.declared.Groups.{Groups}
 use Rattle.groups.specs.Numbers.{place_of, is_lowest, lowest_below, lowest_bytes, number_of, numbers, groups_by}

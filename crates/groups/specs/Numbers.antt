@@ -1,6 +1,6 @@
 -- The byte groups of a pattern and their numbers (paper 01, "Refusals"; request 3).
 -- Assumes nothing.
-use Rattle.std.specs.Prelude.{ℕ, zero, suc, ◌-◌, Bool, not, cond, List, [], ◌∷◌, ◌++◌, map, length, replicate}
+use Rattle.std.specs.Prelude.{ℕ, suc, ◌-◌, Bool, not, cond, List, [], ◌∷◌, ◌++◌, map, length, replicate}
 use Rattle.std.specs.Bool.{xor}
 use Rattle.theory.specs.Pattern.{Re, count, has}
 use Rattle.theory.specs.Standing.{from, filter}
