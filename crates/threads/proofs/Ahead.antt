@@ -24,7 +24,7 @@ use Rattle.traces.proofs.Firsts.{items_firsts, firsts_once}
 use Rattle.threads.specs.declared.Best.{Best}
 use Rattle.threads.specs.declared.Way.{Way}
 use Rattle.threads.specs.Ways.{Given, IsWay, Led}
-use Rattle.threads.specs.Slots.{Slots, slots, Holds, IsBest, Better, HandedOver}
+use Rattle.threads.specs.Slots.{Slots, Holds, IsBest, Better, HandedOver}
 use Rattle.threads.specs.Reads.{State, order, Sound, blank, threads, leaves_of, AreThreads, Found, Outside, Reads}
 use Rattle.threads.specs.Steps.{RowRead, Takes, Leaves, Stepped, Passed}
 use Rattle.threads.proofs.Entered.{entered_fronts}

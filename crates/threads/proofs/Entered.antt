@@ -18,9 +18,12 @@ after_way none ts m = entered ts m
 after_way (some t) ts m = ts
 
 pub entered_append : (ts : List Thread) (l m : List (Carried Values)) → entered ts (l ++ m) ≡ after_way (first_way l) (entered ts l) m
-entered_append ts [] m = refl
-entered_append ts (ends_at k v ∷ l) m = refl
-entered_append ts (wants p v ∷ l) m = entered_append _ l m
+entered_append ts l m = go l ts
+  where
+    go : (l : List (Carried Values)) (ts : List Thread) → entered ts (l ++ m) ≡ after_way (first_way l) (entered ts l) m
+    go [] ts = refl
+    go (ends_at k v ∷ l) ts = refl
+    go (wants p v ∷ l) ts = go l (cond (member p (leaves_of ts)) ts (ts ++ ((p, v) ∷ [])))
 
 leaves_append : (ts us : List Thread) → leaves_of (ts ++ us) ≡ leaves_of ts ++ leaves_of us
 leaves_append [] us = refl

@@ -13,7 +13,7 @@ use Rattle.theory.specs.Code.Follow.{Next, start, follow}
 use Rattle.theory.specs.Code.Closure as Plain-items
 use Rattle.theory.proofs.Tests.{or_cases, either}
 use Rattle.theory.proofs.Members.{member_append, gather_member}
-use Rattle.theory.proofs.Extend.{place, leaf_range}
+use Rattle.theory.proofs.Extend.{leaf_range}
 use Rattle.theory.proofs.Nexts.{Leaves, start_all, follow_all}
 use Rattle.theory.proofs.Step.{wanted_in}
 use Rattle.theory.proofs.Closure.{closure_right, closure_after_right, member_wants}

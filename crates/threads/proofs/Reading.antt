@@ -20,7 +20,7 @@ use Rattle.words.proofs.Bits.{no_bit}
 use Rattle.traces.specs.Traces.{Carried, ends_at, want}
 use Rattle.traces.specs.Fields.{first_way}
 use Rattle.traces.specs.Code.Pass.{Values, Thread}
-use Rattle.threads.specs.Slots.{Slots, slots, Long, Holds, Marked, Moved}
+use Rattle.threads.specs.Slots.{Slots, Long, Holds, Marked, Moved}
 use Rattle.threads.specs.Reads.{State, order, Sound, blank, threads, leaves_of, AreThreads, entered, Found, Reads, LeafEntered}
 use Rattle.traces.proofs.Pass.{way_append}
 use Rattle.threads.proofs.Entered.{entered_append}

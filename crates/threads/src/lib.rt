@@ -45,7 +45,7 @@ const NONE: Front = Front {
 
 // Where outcomes go: the place in the line, and the side of the slots. The leaf p has the slot p on the side 0 and the slot 64 + p on the side 1; each byte changes the
 // side, so that no slot is written before it is read.
-#[derive(Drop)]
+#[derive(Clone, Copy)]
 struct Turn {
     side: usize,
     place: usize,
