@@ -1,2 +1,3 @@
--- Laws of lines.
+-- Laws of lines, and of the lines noted so far.
 pub mod Lines
+pub mod Notes
