@@ -1,9 +1,8 @@
 -- For the layers above: the masks say which leaves of the decoded pattern hold a byte.
 -- Assumes nothing.
-use mathlib.Core.Path.{◌≡◌, refl, sym, ap, ◌∙◌, subst}
-use mathlib.Core.Logic.{◌⊎◌, inl, inr}
+use mathlib.Core.Path.{◌≡◌, sym, ap, ◌∙◌, subst}
 use Prim.Native.Nat.{ℕ, zero, suc, ◌+◌, ◌≤◌, ◌<◌}
-use mathlib.Core.Bool.{Bool, true, false, ◌&&◌, ◌||◌, cond}
+use mathlib.Core.Bool.{Bool, true, false, ◌&&◌, cond}
 use mathlib.Core.List.{List}
 use native.Mathlib.Omega.{arith}
 use native.Mathlib.Decide.{dec_lt}
@@ -72,6 +71,7 @@ module _ {masks : List ℕ} (p b : ℕ) where
 
   held_has : {r : Re} → ByMasks masks r → Leaf r p → T (held masks p b) → T (has r p b)
   unfolding has
+  held_has no_leaf l t = elim l [ ]
   held_has one Leaf.here t = rw (T_true (eqb p p) (eqb_refl p)) t
   held_has (two_seq {x = x} {y = y} a c) (seq_left l) t = or_left (has x p b) (has y p b) (held_has a l t)
   held_has (two_seq {x = x} {y = y} a c) (seq_right l) t = or_right (has x p b) (has y p b) (held_has c l t)

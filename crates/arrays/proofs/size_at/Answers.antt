@@ -1,0 +1,16 @@
+-- `arrays::size_at` meets its contract: the sizes before the place are small, so their sum is.
+-- Assumes nothing.
+use native.Mathlib.Omega.{arith}
+use mathlib.Core.Path.{◌∙◌}
+use Rattle.arrays.proofs.Sizes.{left_before, size_before}
+use Rattle.arrays.proofs.size_at.Goals as goal
+
+pub size_of-requires : goal.size_of-requires
+size_of-requires c =
+    let a = c.args in
+    omega (arith, c.left_size.ensures, left_before a.sizes.now a.i (omega arith) c.requires.1)
+
+pub returns : goal.returns
+returns c =
+    let a = c.args in
+    c.size_of.ensures ∙ size_before a.kind a.sizes.now a.i c.left_size.result (omega arith) c.left_size.ensures
