@@ -1,6 +1,6 @@
 -- The codes that an array holds, one for each part that a pattern can have, and what is written to it. Codes past the last place are lost: the array holds the first ones.
 -- Assumes nothing.
-use Rattle.std.specs.Prelude.{◌≡◌, ℕ, ◌≤◌, min, List, [], ◌∷◌, ◌++◌, length, take}
+use Rattle.std.specs.Prelude.{◌≡◌, ℕ, ◌≤◌, min, List, ◌++◌, length, take}
 use Rattle.grammar.specs.Code.Tokens.{max_parts}
 
 -- The array a, of which the first n places are used, holds the codes l.

@@ -1,0 +1,12 @@
+-- One more code: it stands at the end, or there is no room for it.
+-- Assumes nothing.
+use native.Mathlib.Omega.{arith}
+use mathlib.Core.List.{[], ◌∷◌}
+use Rattle.tokens.proofs.Laws.{pushed, full}
+use Rattle.tokens.proofs.push.Goals as goal
+
+pub returns-then-len-lt-MAX_PARTS : goal.returns-then-len-lt-MAX_PARTS
+returns-then-len-lt-MAX_PARTS c = record { added = pushed c.args.a.now c.args.len c.args.code (omega arith) }
+
+pub returns : goal.returns
+returns c = record { added = full c.args.a.now c.args.len (c.args.code ∷ []) (omega arith) }
