@@ -5,7 +5,7 @@ use Prim.Native.Nat.{ℕ, zero, suc, ◌+◌, ◌*◌, ◌-◌, ◌≤◌, ◌<�
 use mathlib.Core.Bool.{Bool, true, false, cond}
 use mathlib.Core.List.{List, [], ◌∷◌, ◌++◌, append_assoc}
 use native.Mathlib.Omega.{arith}
-use lib.ListN.{length, get_or, set, take, drop, length-set, length-drop, take-append-drop, get_or-eq_default, get_or-append}
+use lib.ListN.{length, get_or, take, drop, length-set, length-drop, take-append-drop, get_or-eq_default, get_or-append}
 use lib.Seq.{paste, length-paste, length-take-le, get_or-take, get_or-drop, get_or-set_same, get_or-set_other, take_at, drop_at, take-append-le, drop-append-le}
 use lib.Dec.{T, leb}
 use borrow.Author.Tests.{leb-false}

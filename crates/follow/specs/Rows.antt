@@ -1,6 +1,6 @@
 -- The rows of the follow tables, and the pattern that they are of.
 -- Assumes nothing.
-use Rattle.std.specs.Prelude.{◌≡◌, ℕ, suc, ◌+◌, ◌*◌, ◌≤◌, ◌<◌, true, false, List, get_or, take, drop}
+use Rattle.std.specs.Prelude.{◌≡◌, ℕ, suc, ◌*◌, ◌≤◌, ◌<◌, true, false, List, get_or, take, drop}
 use Rattle.theory.specs.Pattern.{Re, count, Numbered}
 use Rattle.theory.specs.Standing.{member}
 use Rattle.theory.specs.Code.Closure.{closure, closure_after}

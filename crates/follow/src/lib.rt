@@ -35,7 +35,7 @@ pub struct Tables {
 // A list of outcomes, each once, in arrays that are lent beside it, so that no array is copied on the way: its numbers in order, and at the place of each number
 // the fields on the way to it, bit f - 1 if the field f is opened, bit f + 7 if it is closed. They are `numbers` and `fields` of a list that is read, `items` and
 // `own` of one that is written.
-#[derive(Drop)]
+#[derive(Clone, Copy)]
 struct Outcomes {
     len: usize,
     // its wanted leaves as bits
