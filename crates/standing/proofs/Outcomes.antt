@@ -7,14 +7,13 @@ use mathlib.Core.List.{List, [], ◌∷◌, ◌++◌, append-nil, append_assoc}
 use native.Mathlib.Omega.{arith}
 use lib.Dec.{T, eqb, eqb_refl, eqb-suc-suc}
 use borrow.Author.Tests.{lt-ltb}
-use Rattle.theory.specs.Pattern.{Re, leaf, count, has, Numbered}
+use Rattle.theory.specs.Pattern.{Re, count, has, Numbered}
 use Rattle.theory.specs.Outcomes.{ends_at, wants}
 use Rattle.theory.specs.Standing.{member, gather, once, fronts}
 use Rattle.theory.specs.Code.Follow.{Next, start, follow}
 use Rattle.theory.specs.Code.Closure.{items, closure, closure_after, front, flat, takes}
 use Rattle.theory.proofs.Tests.{or_left, or_right, or_cases, either}
 use Rattle.theory.proofs.Members.{member_append, gather_member}
-use Rattle.theory.proofs.Outcomes.{end}
 use Rattle.theory.proofs.Extend.{leaf_range}
 use Rattle.theory.proofs.Nexts.{Leaves, start_all, follow_all}
 use Rattle.theory.proofs.Step.{wanted_in}

@@ -25,7 +25,7 @@ use Rattle.words.specs.Sets.{has_bit}
 use Rattle.standing.specs.declared.Standing.{Standing}
 use Rattle.standing.specs.declared.Wants.{Wants}
 use Rattle.standing.specs.Stands.{means, Arrays, Lent, Fine, Stands}
-use Rattle.standing.specs.Reads.{Gathered, order, leaves, Fronts, row_of, outcomes_after}
+use Rattle.standing.specs.Reads.{Gathered, order, Fronts, row_of, outcomes_after}
 use Rattle.standing.specs.Sets.{Small, goes, Wanted}
 use Rattle.words.proofs.Bits.{no_bit, or_bit, no_more}
 use Rattle.standing.proofs.Sets.{any_cut, any_filter, filter_cut, member_flat}

@@ -1,13 +1,12 @@
 -- The standing that a `Standing` of the code is, and what its functions need to know of the arrays that are lent.
 -- Assumes nothing.
-use Rattle.std.specs.Prelude.{◌≡◌, ℕ, suc, ◌≤◌, ◌<◌, true, false, List, [], length, get_or, take, drop, T}
+use Rattle.std.specs.Prelude.{◌≡◌, ℕ, ◌≤◌, ◌<◌, false, List, [], get_or, take, T}
 use Rattle.theory.specs.Pattern.{Re, count, has, Numbered}
 use Rattle.theory.specs.Standing.{member, from, filter, standing}
 use Rattle.theory.specs.Standing as Theory
 use Rattle.theory.specs.Code.Next.{next}
 use Rattle.theory.specs.Code.Members.{Once}
 use Rattle.words.specs.Sets.{has_bit}
-use Rattle.follow.specs.declared.Tables.{Tables}
 use Rattle.follow.specs.Rows.{Follows}
 use Rattle.standing.specs.declared.Standing.{Standing}
 
