@@ -6,16 +6,22 @@ use mathlib.Core.List.{List, [], ◌∷◌, ◌++◌, append-nil}
 use Prim.Native.Nat.{ℕ, ◌≤◌, ◌<◌, min}
 use lib.IntN.{ℤ, pos, negsuc}
 use lib.Signed.{lt_z}
+use lib.Dec.{ltb}
 use borrow.Author.Tests.{ltb-true}
 use Rattle.io.specs.Counts.{clamp_len}
-use lib.ListN.{length, take, set}
+use Rattle.std.specs.List.{list_all}
+use Rattle.std.specs.Str.{IsUtf8}
+use Rattle.std.proofs.lemmas.Str.{IsUtf8-from_ascii}
+use Rattle.std.proofs.lemmas.Str.Ascii.{IsAscii-from_all}
+use Rattle.std.proofs.lemmas.List.Sums.{AllPass-from_list_all}
+use lib.ListN.{length, get_or, take, set}
 use lib.Seq.{take-suc-set, take-take}
 use native.Mathlib.Omega.{arith}
 use Rattle.lines.specs.declared.Source.{Source}
 use Rattle.lines.specs.declared.Source.TheVariants.{Open, Over, Unread, Unwritten}
 use Rattle.lines.specs.declared.State.{State}
-use Rattle.lines.specs.Lines.{up_to, ended, past, kept, rest, begun, goes_on, Line, here, later, NextLine, FirstLine}
-use Rattle.lines.specs.Exchange.{Written, done, failed, lacking, Took, ReadMore, more, over, unread, Exchanged, unwritten, closed, waits, read, moved_to, finished, Finished}
+use Rattle.lines.specs.Lines.{up_to, kept, rest, begun, goes_on, Line, here, later, NextLine, FirstLine}
+use Rattle.lines.specs.Exchange.{Written, done, failed, lacking, Took, ReadMore, more, over, unread, Exchanged, unwritten, closed, waits, read, moved_to, finished, Finished, fault_line}
 use Rattle.lines.specs.Steps.{is_open, wants_line}
 use Rattle.lines.proofs.Laws.{not_ended}
 
@@ -124,6 +130,18 @@ nothing_waits (read o h (g, unread a e)) = ap (λ x. x.used) e
 pub nothing_written : {s r : State} → Written s r → r.used ≡ 0
 nothing_written (done e) = ap (λ x. x.used) e
 nothing_written (failed e) = ap (λ x. x.used) e
+
+-- The line that tells a failure is ASCII, and so it is text.
+ascii : (l : List ℕ) → list_all (λ b. ltb b 128) l ≡ true → IsUtf8 l
+ascii l h =
+    let p = AllPass-from_list_all (λ b. ltb b 128) l h in
+    IsUtf8-from_ascii l (IsAscii-from_all l (λ k d lt. ltb-true (get_or l k d) 128 (p k d lt)))
+
+pub fault_text : (x : Source) → IsUtf8 (fault_line x)
+fault_text Open = ascii [] refl
+fault_text Over = ascii [] refl
+fault_text Unread = ascii (fault_line Unread) refl
+fault_text Unwritten = ascii (fault_line Unwritten) refl
 
 pub at_the_end : (s : State) {r : State} → s.used ≡ 0 → r ≡ finished s → Finished r
 at_the_end s {r} u e = go (goes_on s) refl

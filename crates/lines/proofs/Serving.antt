@@ -10,7 +10,7 @@ use lib.ListN.{length, take, length-append, length-take, drop_of_length-le}
 use Rattle.printing.specs.Text.{Appended}
 use Rattle.printing.proofs.Laws.{fits}
 use Rattle.lines.specs.declared.State.{State}
-use Rattle.lines.specs.Lines.{up_to, ended, past, kept, rest, begun, NextLine}
+use Rattle.lines.specs.Lines.{rest, begun, NextLine}
 use Rattle.lines.specs.Answers.{Answers, none, next, part, Served}
 use Rattle.lines.proofs.Laws.{not_ended}
 

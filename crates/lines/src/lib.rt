@@ -1,6 +1,6 @@
 // Standard input by lines, and standard output by a buffer. Lines may have any length and hold any bytes but the newline; input and output go by chunks, so
 // memory stays the same. A program turns between two steps: it answers the lines that end in the chunk, which `next_line` finds, and exchanges what waits for
-// the next chunk. Only `exchange` reads, and it writes first; `write_out` and `tell` only write.
+// the next chunk. Only `exchange` reads, and it writes first; `write_out` and `tell` only write. The program lends its runtime, which prints, and its reader.
 #![tactic(auto)]
 
 ghost use Rattle.std.specs.Prelude.{◌≡◌, false, List, [], ◌+◌, ◌≤◌, leb, drop, length, take};
@@ -9,7 +9,8 @@ ghost use Rattle.lines.specs.Lines.{BeginsWith, NextLine, goes_on, FirstLine};
 ghost use Rattle.lines.specs.Exchange.{Written, moved_to, has_begun, Exchanged, Took, ReadMore, finished, fault_line};
 ghost use Rattle.lines.specs.Steps.{Kept, KeptNow, is_open, wants_line};
 
-use libc::{STDERR_FILENO, STDIN_FILENO, STDOUT_FILENO};
+use std::io::Read;
+use std::str;
 
 // The size of a chunk of the input, and of the output's buffer.
 pub const SIZE: usize = 65536;
@@ -18,7 +19,7 @@ pub const SIZE: usize = 65536;
 pub const KEPT: usize = 1025;
 
 // More can be read; the input is over; a read has failed; a write has.
-#[derive(Drop)]
+#[derive(Clone, Copy)]
 pub enum Source {
     Open,
     Over,
@@ -27,7 +28,7 @@ pub enum Source {
 }
 
 // Where a program stands in its input and its output.
-#[derive(Drop)]
+#[derive(Clone, Copy)]
 pub struct State {
     // the bytes of the chunk from at to end are still to be read
     pub at: usize,
@@ -154,12 +155,12 @@ fn moved(state: State, at: usize, end: usize, source: Source) -> State
 }
 
 // What waits is written out.
-pub fn write_out(out: &[u8; SIZE], state: State) -> State
+pub fn write_out<P: Print>(rt: &P, out: &[u8; SIZE], state: State) -> State
     ensures written { Written state result }
 {
     let mut r = state;
     r.used = 0;
-    if io::write_all(STDOUT_FILENO, first_of(out, state.used)) {
+    if rt.write_all(first_of(out, state.used)).is_ok() {
         return r;
     }
     moved(r, r.at, r.end, Source::Unwritten)
@@ -194,10 +195,13 @@ fn took(chunk: &mut [u8; SIZE], state: State, got: isize) -> State
 }
 
 // Reads once.
-fn read_more(chunk: &mut [u8; SIZE], state: State) -> State
+fn read_more<R: Read>(input: &mut R, chunk: &mut [u8; SIZE], state: State) -> State
     ensures { ReadMore state chunk.new result }
 {
-    let got = libc::read(STDIN_FILENO, &mut chunk[..]);
+    let got = match input.read(&mut chunk[..]) {
+        Ok(n) => n as isize,
+        Err(_) => -1,
+    };
     took(chunk, state, got)
 }
 
@@ -213,10 +217,16 @@ fn is_open(source: Source) -> bool
 }
 
 // What waits is written out; then, where the chunk is read to its end, the next one is read. Nothing is read once the input is over or a read or a write has failed.
-pub fn exchange(chunk: &mut [u8; SIZE], out: &[u8; SIZE], state: State) -> State
+pub fn exchange<P: Print, R: Read>(
+    rt: &P,
+    input: &mut R,
+    chunk: &mut [u8; SIZE],
+    out: &[u8; SIZE],
+    state: State,
+) -> State
     ensures exchanged { Exchanged chunk.old state chunk.new result }
 {
-    let r = write_out(out, state);
+    let r = write_out(rt, out, state);
     let source = r.source;
     if !is_open(source) {
         return r;
@@ -224,7 +234,7 @@ pub fn exchange(chunk: &mut [u8; SIZE], out: &[u8; SIZE], state: State) -> State
     if r.at < r.end {
         return r;
     }
-    read_more(chunk, r)
+    read_more(input, chunk, r)
 }
 
 // Whether so many bytes still fit after those that wait.
@@ -271,13 +281,19 @@ fn wants_line(state: State) -> bool
 }
 
 // Reads until a line is whole: none is where the input is over or cannot be read.
-pub fn first_line(chunk: &mut [u8; SIZE], line: &mut [u8; KEPT], out: &[u8; SIZE]) -> State
+pub fn first_line<P: Print, R: Read>(
+    rt: &P,
+    input: &mut R,
+    chunk: &mut [u8; SIZE],
+    line: &mut [u8; KEPT],
+    out: &[u8; SIZE],
+) -> State
     ensures first { FirstLine chunk.new line.new result }
 {
     let mut s = start();
     let mut turns = u64::MAX;
     while turns > 0 && wants_line(s) {
-        s = exchange(chunk, out, s);
+        s = exchange(rt, input, chunk, out, s);
         s = next_line(chunk, line, s);
         turns -= 1;
     }
@@ -302,10 +318,11 @@ fn fault(out: &mut [u8; SIZE], source: Source) -> usize
 }
 
 // Writes that line to standard error, and says how many bytes of the buffer it takes.
-pub fn tell(out: &mut [u8; SIZE], source: Source) -> usize
+pub fn tell<P: Eprint>(rt: &P, out: &mut [u8; SIZE], source: Source) -> usize
     ensures told { take result out.new ≡ fault_line source }
 {
     let n = fault(out, source);
-    io::write_all(STDERR_FILENO, first_of(out, n));
+    let text = str::from_utf8(first_of(out, n)).unwrap();
+    let _ = rt.eprint(text);
     n
 }
