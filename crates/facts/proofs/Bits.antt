@@ -70,7 +70,7 @@ member_filter f c p h = same_test _ _ (λ t. filter_passes f (from 0 c) p t) (λ
 
 pub none_in : (x : ℕ) (l : List ℕ) → x ≡ 0 → filter (has_bit x) l ≡ []
 none_in x [] e = refl
-none_in x (p ∷ l) e = rw (e, no_bit p) (none_in 0 l refl)
+none_in x (p ∷ l) e = rw (e, no_bit p) (none_in x l e)
 
 pub some_in_set : (x c : ℕ) → ((q : ℕ) → c ≤ q → has_bit x q ≡ false) → (x ≡ 0 → ⊥) → 0 < length (leaves_in c x)
 some_in_set x c h n =

@@ -25,7 +25,7 @@ use Rattle.theory.proofs.Nexts.{follow_all}
 use Rattle.theory.proofs.Step.{wanted_in, afters_member, afters_end}
 use Rattle.theory.proofs.Closure.{closure_right, closure_after_right, member_zero, member_wants}
 use Rattle.words.specs.Sets.{has_bit}
-use Rattle.words.proofs.Bits.{and_bit, no_bit}
+use Rattle.words.proofs.Bits.{and_bit}
 use Rattle.follow.specs.declared.Tables.{Tables}
 use Rattle.follow.specs.Rows.{row, Summed}
 use Rattle.standing.specs.Stands.{Arrays, Lent}

@@ -12,7 +12,7 @@ use lib.Bits.{bit_and, bit_or}
 use Rattle.theory.specs.Pattern.{Re, has, count}
 use Rattle.theory.specs.Outcomes.{when}
 use Rattle.theory.specs.Standing.{member, from}
-use Rattle.theory.specs.Code.Follow.{Next, follow, after, has_end}
+use Rattle.theory.specs.Code.Follow.{follow, after, has_end}
 use Rattle.theory.specs.Code.Next.{afters}
 use Rattle.theory.proofs.Tests.{T_true, true_T, not_true, or_right}
 use Rattle.theory.proofs.Members.{any_found, Within, filter_of, member_from}
