@@ -10,7 +10,7 @@ use native.Mathlib.Numerals.{add-one}
 use native.Mathlib.Decide.{dec_lt}
 use lib.ListN.{length, get_or, drop, length-drop}
 use lib.Seq.{drop-cons}
-use lib.Dec.{eqb, eqb→eq, eqb_refl}
+use lib.Dec.{eqb, eqb→eq}
 use Rattle.grammar.specs.Grammar.{Repeat, once, many, more, maybe, exactly, at_least, between, lazily, unmarked, Kind, ordinary, backslash, bar, opener, closer, bracket, brace, period, stray, sign, kind, special, repeat_text}
 use Rattle.grammar.specs.Before.{Before, start, barred, opened, after, text, ready, softens, WfBefore}
 use Rattle.grammar.specs.Refusals.{Wrong, bare, unready_sign, unready_count, escape_last, escape_ordinary, no_class, no_count, too_deep, left_open, Fault, wrong}
@@ -23,7 +23,7 @@ use Rattle.grammar.proofs.Unique.{after_sequence, after_alternation, opens_seque
 use Rattle.grammar.proofs.Place.{text_length, sequence_formed, alternation_formed, opens_alternation}
 use Rattle.reader.specs.declared.Size.{Size}
 use Rattle.reader.specs.declared.Brackets.{Brackets}
-use Rattle.reader.specs.Steps.{is_special, is_repeat, NoRepeat, NoSign, Beginning, Begun, Ready, Alternated, Sequenced, Atomic, Repeated}
+use Rattle.reader.specs.Steps.{is_special, is_repeat, NoRepeat, Beginning, Begun, Ready, Alternated, Sequenced, Atomic, Repeated}
 
 -- The bytes from a place on.
 pub at_drop : (p : List ℕ) (i : ℕ) → i < length p → drop i p ≡ get_or p i 0 ∷ drop (i + 1) p

@@ -26,7 +26,7 @@ use Rattle.grammar.proofs.Unique.{after_alternation, text_alternation}
 use Rattle.grammar.proofs.Place.{text_length, alternation_formed, opens_alternation}
 use Rattle.tokens.specs.Held.{HoldsCodes}
 use Rattle.arrays.specs.declared.Pattern.{Pattern}
-use Rattle.arrays.specs.Decoded.{decode, blank}
+use Rattle.arrays.specs.Decoded.{blank}
 use Rattle.arrays.specs.Finished.{Finished}
 use Rattle.arrays.specs.Finished as Arrays
 use Rattle.lengths.specs.Lengths.{no_byte, lengths}
@@ -38,7 +38,6 @@ use Rattle.reader.specs.declared.Part.{Part}
 use Rattle.reader.specs.declared.Part.TheVariants.{Read, Refused}
 use Rattle.reader.specs.declared.Answer.{Answer}
 use Rattle.reader.specs.declared.Answer.TheVariants.{Accepted}
-use Rattle.reader.specs.declared.Answer.TheVariants as Answer
 use Rattle.reader.specs.declared.Brackets.{Brackets}
 use Rattle.reader.specs.declared.Text.{Text}
 use Rattle.reader.specs.Reading.{no_brackets, brackets_due, WithinRead, fault, tree, TextRead, refusal, within, ReadRight, accepted}

@@ -10,7 +10,7 @@ use native.Mathlib.Decide.{dec_lt}
 use lib.ListN.{length, get_or, drop}
 use Rattle.theory.specs.Pattern.{Manner, Re}
 use Rattle.grammar.specs.Grammar.{plain, escaped, Repeat, once, many, more, maybe, exactly, at_least, between, lazily, unmarked, Digits, digits_value, last, or, Sequence, nothing, part, Atom, byte, dot, class, group, repeat_text, alternation, sequence, atom, WfAtom, WfRepeat}
-use Rattle.grammar.specs.Limits.{depth_atom, repeated, weight, weights, weight_atom, heaviest, heaviest_within, heaviest_atom}
+use Rattle.grammar.specs.Limits.{depth_atom, weight, weights, weight_atom, heaviest, heaviest_within, heaviest_atom}
 use Rattle.grammar.specs.Brackets.{brackets_within, brackets_atom, openings, openings_atom, max_fields}
 use Rattle.grammar.specs.Sets.{in_named}
 use Rattle.grammar.specs.WriteOut.{chain, optional, bracketed, shape, parts, shape_atom, repeat_by, repeat_of}

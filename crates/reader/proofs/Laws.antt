@@ -21,7 +21,7 @@ use Rattle.lengths.specs.Code.{longest_of}
 use Rattle.lengths.specs.Code as Lengths
 use Rattle.reader.specs.declared.Answer.TheVariants.{Accepted, Refused}
 use Rattle.reader.specs.declared.Reading.{Reading}
-use Rattle.reader.specs.Reading.{Written, accepted, refused, meaning, due, Beside, brackets_due, lengths_due, ReadRight}
+use Rattle.reader.specs.Reading.{accepted, refused, meaning, due, Beside, brackets_due, lengths_due, ReadRight}
 
 module _ {loaded p : List ℕ} {r : Reading} (h : ReadRight loaded p r) where
   -- THE ANSWER AND THE ARRAYS ARE THOSE OF THE DEFINITION: one equation, for every table and every pattern.

@@ -1,6 +1,6 @@
 -- Sizes: the weight and the lengths of a part, from those of its parts.
 -- Assumes nothing.
-use mathlib.Core.Path.{◌≡◌, refl, sym, ap, ◌∙◌}
+use mathlib.Core.Path.{◌≡◌, ap, ◌∙◌}
 use Prim.Native.Nat.{ℕ, suc, ◌+◌, ◌*◌, ◌≤◌, ◌<◌, max, min}
 use native.Mathlib.Omega.{arith}
 use native.Mathlib.Nat.{one-mul}
@@ -10,7 +10,7 @@ use Rattle.lengths.specs.Lengths.{Extent, in_row, one_of, up_to, or_more, under_
 use Rattle.lengths.specs.Code.{meaning, capped}
 use Rattle.lengths.proofs.Capped.{row_counted, one_counted, up_to_counted, or_more_counted}
 use Rattle.reader.specs.declared.Size.{Size}
-use Rattle.reader.specs.Steps.{Weighs, light, load_of, Sized, SizeOf}
+use Rattle.reader.specs.Steps.{load_of, Sized, SizeOf}
 use Rattle.reader.proofs.Weights.{weighs_65, weighs_plus, weighs_again, weighs_times, one_load}
 
 pub size_65 : {c : Size} {w h : ℕ} {y : Extent} → SizeOf c w h y → c.weight ≤ 65

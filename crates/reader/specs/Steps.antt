@@ -16,7 +16,6 @@ use Rattle.lengths.specs.Lengths.{Extent, no_byte, under_repeat, lengths, length
 use Rattle.lengths.specs.Code.{meaning, capped}
 use Rattle.reader.specs.declared.Answer.{Answer}
 use Rattle.reader.specs.declared.Answer.TheVariants.{Accepted}
-use Rattle.reader.specs.declared.Answer.TheVariants as Answer
 use Rattle.reader.specs.declared.Brackets.{Brackets}
 use Rattle.reader.specs.declared.Size.{Size}
 use Rattle.reader.specs.declared.Part.{Part}

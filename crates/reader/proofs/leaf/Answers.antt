@@ -1,0 +1,16 @@
+-- `leaf` finds an atom that is no group, or its fault.
+-- Assumes nothing.
+use mathlib.Core.Path.{sym, ◌∙◌}
+use Rattle.reader.specs.Steps.{found_part, found_fault}
+use Rattle.reader.proofs.Begins.{fault_stray}
+use Rattle.reader.proofs.Finds.{dot_here, plain_here}
+use Rattle.reader.proofs.leaf.Goals as goal
+
+pub returns-then-b-eq46 : goal.returns-then-b-eq46
+returns-then-b-eq46 c = rw c.found.ensures (found_part (λ g. dot_here c.requires.0 c.requires.1.before c.push_leaf-n.ensures c.leaf_size.ensures g c.if-b-eq46.true))
+
+pub returns-then-is_special : goal.returns-then-is_special
+returns-then-is_special c = rw c.refused.ensures (found_fault (fault_stray c.requires.0 c.requires.1.before (sym c.if-is_special.true ∙ c.is_special.ensures) c.if-b-eq92.false c.requires.2 c.if-b-eq46.false c.if-b-eq91.false c.requires.1.no_bar c.requires.1.no_close))
+
+pub returns : goal.returns
+returns c = rw c.found-2.ensures (found_part (λ g. plain_here c.requires.0 c.requires.1.before c.push_leaf-n-2.ensures c.leaf_size-2.ensures g (sym c.if-is_special.false ∙ c.is_special.ensures)))
