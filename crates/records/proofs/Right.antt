@@ -17,13 +17,12 @@ use Rattle.theory.proofs.Tests.{not_true, same_test}
 use Rattle.theory.proofs.Members.{filter_of, filter_passes, member_from, length_from, once_size, from_range, filter_in}
 use Rattle.theory.proofs.Sizes.{order_once, order_below, order_size}
 use Rattle.words.specs.Sets.{has_bit}
-use Rattle.verdict.specs.Record.{form_of, wide, record_bytes}
-use Rattle.verdict.specs.Code.Held.{held}
+use Rattle.verdict.specs.Record.{wide, record_bytes}
 use Rattle.verdict.proofs.Packed.{set_bytes, six_bytes, packed}
 use Rattle.verdict.proofs.Forms.{held_record}
 use Rattle.verdict.proofs.Injective.{below_by}
 use Rattle.standing.specs.declared.Standing.{Standing}
-use Rattle.standing.specs.Stands.{means, Fine, Stands}
+use Rattle.standing.specs.Stands.{means, Fine}
 use Rattle.standing.proofs.Sets.{filter_cut}
 use Rattle.records.specs.Packing.{Packed, Unpacked}
 use Rattle.records.specs.Bytes.{one, bytes_of, set_of, threes, fours}
