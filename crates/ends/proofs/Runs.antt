@@ -1,21 +1,21 @@
 -- Runs of bytes that keep a standing: which bytes are alike to it, and that it is the same after each of them.
 -- Assumes nothing.
-use mathlib.Core.Path.{◌≡◌, refl, sym, ap, ap₂, ◌∙◌, subst}
+use mathlib.Core.Path.{◌≡◌, refl, sym, ap, ◌∙◌, subst}
 use mathlib.Core.Bool.{Bool, true, false, not, ◌&&◌, beq, true≢false}
-use mathlib.Core.List.{List, [], ◌∷◌, ◌++◌}
-use Prim.Native.Nat.{ℕ, ◌+◌, ◌≤◌, ◌<◌}
+use mathlib.Core.List.{List, [], ◌∷◌}
+use Prim.Native.Nat.{ℕ, ◌≤◌, ◌<◌}
 use native.Mathlib.Omega.{arith}
 use native.Mathlib.Decide.{dec_lt}
 use lib.ListN.{length, get_or, take}
 use lib.Seq.{ext_get_or, get_or-take, length-take-le}
-use lib.Dec.{T, eqb, eqb_refl}
+use lib.Dec.{T, eqb}
 use lib.Bits.{bit_and}
 use Rattle.theory.specs.Pattern.{Re, count, has, Numbered}
-use Rattle.theory.specs.Outcomes.{Outcome, ends_at, wants, when, outcomes}
+use Rattle.theory.specs.Outcomes.{Outcome, ends_at, wants, outcomes}
 use Rattle.theory.specs.Standing.{member, fronts, wanted, once, set_of, from, filter, standing}
 use Rattle.theory.specs.Standing as Theory
-use Rattle.theory.specs.Code.Follow.{follow, has_end}
-use Rattle.theory.specs.Code.Next.{afters, next}
+use Rattle.theory.specs.Code.Follow.{has_end}
+use Rattle.theory.specs.Code.Next.{next}
 use Rattle.theory.proofs.Tests.{T_true, or_left, or_right, or_cases, either}
 use Rattle.theory.proofs.Members.{Within, gather_member, filter_of, filter_passes, member_from}
 use Rattle.theory.proofs.Sizes.{order_below}
