@@ -1,21 +1,19 @@
 -- The groups of the arrays that the reader hands over are those of the pattern, and so are the lines that they make readable.
 -- Assumes nothing.
-use mathlib.Core.Path.{◌≡◌, refl, sym, ap, ap₂, ◌∙◌}
+use mathlib.Core.Path.{◌≡◌, sym, ap, ap₂, ◌∙◌}
 use Prim.Native.Nat.{ℕ, ◌<◌}
 use mathlib.Core.List.{List, map}
 use native.Mathlib.Omega.{arith}
 use lib.ListN.{get_or}
-use Rattle.grammar.specs.Grammar.{Alternation}
 use Rattle.grammar.specs.Refusals as Due
 use Rattle.grammar.specs.WriteOut.{write_out}
 use Rattle.arrays.specs.Decoded.{decode}
 use Rattle.groups.specs.declared.Groups.{Groups}
 use Rattle.groups.specs.Numbers.{groups_by, groups_of}
-use Rattle.groups.specs.Readable.{readable_by, readable}
+use Rattle.groups.specs.Readable.{readable_by}
 use Rattle.groups.specs.Turns.{same}
 use Rattle.groups.proofs.Laws.{mask_groups}
 use Rattle.groups.proofs.ReadableLines.{line_readable}
-use Rattle.reader.specs.declared.Answer.{Answer}
 use Rattle.reader.specs.declared.Answer.TheVariants.{Accepted, Refused}
 use Rattle.reader.specs.declared.Reading.{Reading}
 use Rattle.reader.specs.Reading.{ReadRight}
