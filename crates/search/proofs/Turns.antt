@@ -12,7 +12,7 @@ use lib.Seq.{sets}
 use lib.Dec.{T}
 use Rattle.theory.specs.Pattern.{Re, Numbered, SameGroup}
 use Rattle.theory.specs.Standing.{standing, is_witness}
-use Rattle.theory.specs.Records.{at, Alike}
+use Rattle.theory.specs.Records.{at, NoWitness, Alike}
 use Rattle.theory.proofs.Lines.{snoc_size, snoc_each, snoc_old, snoc_last, below_snoc}
 use Rattle.theory.specs.Code.Search.{begin, known, new, turn, Search}
 use Rattle.theory.proofs.Search.{trace_bytes}
@@ -187,10 +187,14 @@ first_record r {t₀} h e = record {
   lines = [] ∷ [];
   size = refl;
   holds = record { fits = h; table = e ∙ sym (one_record r t₀ h) };
-  none = λ k. elim k [ zero ↦ λ l i. start_no_witness r i | suc m ↦ λ l. absurd (omega arith) ];
+  none = none;
   search = begin;
   tallied = tally_begin r;
 }
+  where
+    none : NoWitness (standing r) ([] ∷ [])
+    none zero l i = start_no_witness r i
+    none (suc m) l i = absurd (omega arith)
 
 -- if there is one.
 pub no_slot : (r : Re) {t₀ : List ℕ} → Numbered 0 r → slots (form_of r) (length t₀) ≡ 0 → SlotsFull r t₀ t₀ × Takes r (slots (form_of r) (length t₀)) (record { looks = 0; comparisons = 0 })

@@ -9,7 +9,6 @@ use Rattle.verdict.specs.Record.{form_of}
 use Rattle.verdict.specs.Table.{records, slots, onto}
 use Rattle.standing.specs.Stands.{Arrays, Lent}
 use Rattle.search.specs.declared.Progress.{Progress}
-use Rattle.search.specs.declared.Progress.TheVariants as Progress
 use Rattle.search.specs.declared.Course.{Course}
 use Rattle.search.specs.Looking.{Takes}
 

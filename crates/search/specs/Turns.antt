@@ -13,7 +13,6 @@ use Rattle.standing.specs.Stands.{Arrays, Lent, Stands}
 use Rattle.groups.specs.Numbers.{shares, is_lowest, lowest_below, lowest_bytes, groups_by}
 use Rattle.groups.specs.Turns.{same}
 use Rattle.search.specs.declared.Progress.{Progress}
-use Rattle.search.specs.declared.Progress.TheVariants as Progress
 use Rattle.search.specs.declared.Looking.{Looking}
 use Rattle.search.specs.declared.Course.{Course}
 use Rattle.search.specs.Looking.{recorded, carried_by, carried, saturated, looking_for, Takes}
