@@ -2,8 +2,7 @@
 -- Assumes nothing.
 use mathlib.Core.Path.{◌≡◌, refl, sym, ap, ◌∙◌, subst}
 use mathlib.Core.Bool.{true, false, cond, true≢false}
-use mathlib.Core.List.{List, []}
-use mathlib.Core.Option.{none, some}
+use mathlib.Core.List.{List}
 use Prim.Native.Nat.{ℕ, zero, suc, ◌+◌, ◌-◌, ◌≤◌, ◌<◌}
 use native.Mathlib.Omega.{arith}
 use native.Mathlib.Decide.{ℕ_discrete}
@@ -21,15 +20,14 @@ use Rattle.words.proofs.Bits.{and_bit, no_bit}
 use Rattle.seeking.specs.declared.How.{How}
 use Rattle.seeking.specs.Hows.{Finds}
 use Rattle.seeking.specs.Places.{Sought, Passed}
-use Rattle.facts.specs.Sets.{leaves_in, Wants, Nexts, Takes}
+use Rattle.facts.specs.Sets.{leaves_in, Wants, Nexts}
 use Rattle.facts.specs.Moves.{Bytes, Moves}
 use Rattle.facts.proofs.Bits.{none_in}
 use Rattle.facts.proofs.Rows.{leaf_in, carried_leaves}
 use Rattle.facts.proofs.Taken.{union_first, union_second, untaken, agree, no_end}
 use Rattle.blocks.specs.Blocks.{firsts}
 use Rattle.blocks.specs.Answer.{later}
-use Rattle.blocks.proofs.Opening.{afters_same, jumped, later_over, Held, held_none, held_next, held_empty, held_quiet}
-use Rattle.ends.specs.declared.End.{End}
+use Rattle.blocks.proofs.Opening.{afters_same, jumped, Held, held_none, held_next, held_empty, held_quiet}
 use Rattle.starts.specs.Opens.{Watched, Resumed, Opened}
 
 -- No leaf of a number that is one of the three.

@@ -1,8 +1,8 @@
 -- The POSIX span from what the passes find.
 -- Assumes nothing.
-use mathlib.Core.Path.{◌≡◌, refl, sym, ap, ◌∙◌}
+use mathlib.Core.Path.{◌≡◌, sym, ap, ◌∙◌}
 use mathlib.Core.Bool.{Bool, true, false, cond}
-use mathlib.Core.List.{List, []}
+use mathlib.Core.List.{List}
 use mathlib.Core.Option.{Option, none, some}
 use Prim.Native.Nat.{ℕ, suc, ◌<◌}
 use native.Mathlib.Omega.{arith}
@@ -11,10 +11,10 @@ use lib.ListN.{length, get_or, drop}
 use lib.Dec.{eqb}
 use borrow.Author.Tests.{eq-eqb, ne_eqb}
 use Rattle.theory.specs.Pattern.{Re, count}
-use Rattle.theory.specs.Spans.{Span, nowhere, span, span_or, posix}
+use Rattle.theory.specs.Spans.{nowhere, span, span_or, posix}
 use Rattle.standing.specs.Stands.{arrays, Lent}
 use Rattle.facts.specs.Sets.{leaves_in}
-use Rattle.facts.specs.Moves.{Bytes, Moves}
+use Rattle.facts.specs.Moves.{Bytes}
 use Rattle.facts.specs.Known.{Lists, Known, ending_in, how_at}
 use Rattle.facts.proofs.Rows.{empty_line, moves}
 use Rattle.blocks.specs.Blocks.{firsts}
@@ -24,7 +24,7 @@ use Rattle.blocks.proofs.Opening.{later_next, last_over}
 use Rattle.ends.specs.declared.End.{End}
 use Rattle.ends.specs.Ends.{place_of, Last}
 use Rattle.starts.specs.declared.Best.{Best}
-use Rattle.starts.specs.Spans.{span_of, Found}
+use Rattle.starts.specs.Spans.{Found}
 use Rattle.starts.specs.Opens.{later_from, Opened}
 use Rattle.starts.specs.Blocks.{Searched}
 
