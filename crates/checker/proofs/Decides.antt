@@ -17,7 +17,7 @@ use Rattle.grammar.specs.Grammar.{Alternation}
 use Rattle.grammar.specs.Loaded.{Accepts}
 use Rattle.grammar.specs.WriteOut.{write_out}
 use Rattle.verdict.specs.Record.{form_of, narrow}
-use Rattle.verdict.specs.Table.{records, slots, onto}
+use Rattle.verdict.specs.Table.{slots, onto}
 use Rattle.verdict.specs.Tabled.{alike, unlike, refused, whole}
 use Rattle.verdict.specs.Area.{area_bytes}
 use Rattle.verdict.specs.Checked.{Checked, by_fault, by_area, by_test, by_table}
