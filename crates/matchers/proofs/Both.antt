@@ -3,15 +3,15 @@
 use mathlib.Core.Path.{◌≡◌, refl, sym, ap, ◌∙◌}
 use mathlib.Core.Bool.{Bool, true, false, cond}
 use mathlib.Core.List.{List, [], ◌∷◌}
-use mathlib.Core.Option.{Option, none, some}
-use Prim.Native.Nat.{ℕ, zero, suc, ◌≤◌, ◌<◌, min}
+use mathlib.Core.Option.{none, some}
+use Prim.Native.Nat.{ℕ, zero, suc, ◌≤◌, min}
 use native.Mathlib.Omega.{arith}
 use native.Mathlib.Decide.{dec_lt}
-use lib.ListN.{length, get_or, take, drop}
+use lib.ListN.{length, take, drop}
 use lib.Dec.{eqb}
 use borrow.Author.Tests.{eq-eqb, ne_eqb}
 use Rattle.theory.specs.Pattern.{Re}
-use Rattle.theory.specs.Spans.{Span, nowhere, span, span_or, greedy, posix}
+use Rattle.theory.specs.Spans.{nowhere, span, span_or, greedy, posix}
 use Rattle.theory.specs.Code.Passes.{farthest}
 use Rattle.theory.proofs.Demand.{both_none}
 use Rattle.facts.specs.Moves.{Bytes}
@@ -19,10 +19,10 @@ use Rattle.blocks.proofs.Greedy.{greedy_upto}
 use Rattle.ends.specs.declared.End.{End}
 use Rattle.ends.specs.Ends.{place_of, Ended}
 use Rattle.starts.specs.declared.Best.{Best}
-use Rattle.starts.specs.Spans.{span_of, Found}
+use Rattle.starts.specs.Spans.{Found}
 use Rattle.matchers.specs.Tables.{Tables}
 use Rattle.matchers.specs.declared.Spans.TheVariants.{Nowhere, Located}
-use Rattle.matchers.specs.Cuts.{Cut, Cuts}
+use Rattle.matchers.specs.Cuts.{Cuts}
 
 -- The line up to the POSIX end.
 take_all : (n : ℕ) (w : List ℕ) → length w ≤ n → take n w ≡ w
