@@ -136,8 +136,8 @@ def edges(p):
 
 
 def own_calls():
-    """Pattern, and lengths of table, witness buffer and area: every refusal, both verdicts, with every kind of buffer. `rt try`, by which tests/small-stack runs the program, ends
-    one that has printed 1,048,576 bytes; an area that is kept takes most."""
+    """Pattern, and lengths of table, witness buffer and area: every refusal, both verdicts, with every kind of buffer. The output stays below 1,048,576
+    bytes, at which `rt try` ended a program; an area that is kept takes most."""
     for p in encoded('a|ab', '(a|ab)*', 'a*', '()', 'a('):
         for t, w in LENGTHS:
             yield p, t, w, AREA if p != b'a(' else 16
