@@ -10,6 +10,7 @@ ghost use Rattle.read_patterns.specs.Line.{Told};
 
 use lines::{KEPT, SIZE, State};
 use reader::Answer;
+use std::io::Read;
 
 fn ones(x: u64) -> u64
     ensures { result < 128 }
@@ -55,7 +56,13 @@ fn answer(out: &mut [u8; SIZE], pattern: &[u8]) -> usize
 }
 
 // Answers the patterns of the input, until it is over or a read or a write fails.
-fn run(chunk: &mut [u8; SIZE], line: &mut [u8; KEPT], out: &mut [u8; SIZE]) -> State
+fn run<P: Print, R: Read>(
+    rt: &P,
+    input: &mut R,
+    chunk: &mut [u8; SIZE],
+    line: &mut [u8; KEPT],
+    out: &mut [u8; SIZE],
+) -> State
     ensures { Finished result }
 {
     let mut s = lines::start();
@@ -66,17 +73,18 @@ fn run(chunk: &mut [u8; SIZE], line: &mut [u8; KEPT], out: &mut [u8; SIZE]) -> S
             let pattern = lines::first_of(line, s.n);
             s.used = answer(out, pattern);
         }
-        s = lines::exchange(chunk, out, s);
+        s = lines::exchange(rt, input, chunk, out, s);
         turns -= 1;
     }
     lines::finish(s)
 }
 
-fn main() {
+fn main(rt: HostRuntime) {
+    let mut input = rt.reader();
     let mut chunk = [0u8; SIZE];
     let mut line = [0u8; KEPT];
     let mut out = [0u8; SIZE];
-    let s = run(&mut chunk, &mut line, &mut out);
+    let s = run(&rt, &mut input, &mut chunk, &mut line, &mut out);
     let source = s.source;
-    lines::tell(&mut out, source);
+    lines::tell(&rt, &mut out, source);
 }
