@@ -1,8 +1,8 @@
 -- The greedy span and its fields, from the leftmost start and the way that is preferred there.
 -- Assumes nothing.
-use mathlib.Core.Path.{◌≡◌, refl, sym, ap, ap₂, ◌∙◌, subst}
-use mathlib.Core.Bool.{Bool, true, false, cond}
-use mathlib.Core.List.{List, []}
+use mathlib.Core.Path.{◌≡◌, sym, ap, ap₂, ◌∙◌, subst}
+use mathlib.Core.Bool.{cond}
+use mathlib.Core.List.{List}
 use mathlib.Core.Option.{Option, none, some}
 use Prim.Native.Nat.{ℕ, zero, suc, ◌+◌, ◌*◌, ◌-◌, ◌≤◌, ◌<◌}
 use native.Mathlib.Omega.{arith}
@@ -10,11 +10,11 @@ use lib.ListN.{get_or, take, drop}
 use borrow.Author.Tests.{eq-eqb, ne_eqb, lt-ltb, le-ltb}
 use Rattle.theory.specs.Pattern.{Re, count}
 use Rattle.theory.specs.Standing.{once}
-use Rattle.theory.specs.Spans.{Span, nowhere, span, span_or, greedy, posix}
+use Rattle.theory.specs.Spans.{nowhere, span, span_or, greedy, posix}
 use Rattle.theory.specs.Code.Passes.{farthest}
 use Rattle.theory.proofs.Demand.{both_none}
-use Rattle.traces.specs.Fields.{absent, field_from, field_at}
-use Rattle.traces.specs.Code.Pass.{Values, Thread, items, first_row, row, pass_from, field_by}
+use Rattle.traces.specs.Fields.{field_from}
+use Rattle.traces.specs.Code.Pass.{Values, items, first_row, row, field_by}
 use Rattle.traces.specs.Code.Marks.{row_sets, Marks}
 use Rattle.traces.proofs.Firsts.{items_firsts, row_items, first_row_items}
 use Rattle.traces.proofs.Pass.{values_of}
@@ -26,9 +26,8 @@ use Rattle.starts.specs.declared.Best.{Best}
 use Rattle.starts.specs.Spans.{Found}
 use Rattle.matchers.specs.Tables.{Tables, Ready}
 use Rattle.threads.specs.declared.Way.{Way}
-use Rattle.threads.specs.Ways.{Given, value_at, HoldsValues, IsWay, Led}
-use Rattle.fields.specs.declared.Piece.{Piece}
-use Rattle.fields.specs.Cuts.{no_piece, place_in, field_in, IsCut, Cuts}
+use Rattle.threads.specs.Ways.{Given, value_at, IsWay, Led}
+use Rattle.fields.specs.Cuts.{no_piece, IsCut, Cuts}
 
 -- What is lent for spans and for masks is what the pass needs.
 row_listed : (r : Re) (t : Tables) → Ready r t → (k : ℕ) → k ≤ count r → take (get_or t.arrays.lens k 0) (drop (65 * k) t.arrays.rows) ≡ once (items (row_sets k r))

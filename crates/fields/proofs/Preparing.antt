@@ -1,28 +1,22 @@
 -- What a pattern is prepared with is its own, or it is kept.
 -- Assumes nothing.
 use mathlib.Core.Path.{◌≡◌, refl, sym, ap, ◌∙◌, subst}
-use mathlib.Core.Bool.{Bool, true, false, cond}
+use mathlib.Core.Bool.{cond}
 use mathlib.Core.List.{List}
 use Prim.Native.Nat.{ℕ, ◌≤◌, ◌<◌}
 use native.Mathlib.Omega.{arith}
-use lib.Dec.{ltb}
 use borrow.Author.Tests.{lt-ltb, le-ltb}
-use Rattle.grammar.specs.Grammar.{Alternation}
 use Rattle.grammar.specs.Brackets.{brackets, max_fields, ninth}
-use Rattle.grammar.specs.WriteOut.{write_out}
 use Rattle.grammar.specs.Refusals as Due
 use Rattle.arrays.specs.Decoded.{decode}
-use Rattle.reader.specs.declared.Answer.{Answer}
 use Rattle.reader.specs.declared.Answer.TheVariants.{Accepted, Refused}
 use Rattle.reader.specs.declared.Reading.{Reading}
-use Rattle.reader.specs.Reading.{ReadRight, brackets_due}
+use Rattle.reader.specs.Reading.{ReadRight}
 use Rattle.reader.proofs.Laws.{accepted_tree, accepted_leaves, accepted_holds, refused_fault}
 use Rattle.matchers.specs.Tables.{Tables, Ready}
 use Rattle.readings.specs.Tables.{FilledBy}
 use Rattle.traces.specs.Code.Marks.{Marks}
 use Rattle.follow.specs.Rows.{Marked}
-use Rattle.fields.specs.declared.Prepared.{Prepared}
-use Rattle.fields.specs.Answer.{limited}
 use Rattle.fields.specs.Cuts.{Lent, lent, PreparedFor, ready, kept, Prepares}
 
 module _ {loaded p : List ℕ} {r : Reading} (h : ReadRight loaded p r) {old : Lent} where

@@ -2,8 +2,8 @@
 -- Assumes nothing.
 use mathlib.Core.Path.{◌≡◌, refl, sym, ap, ap₂, ◌∙◌, subst}
 use mathlib.Core.Bool.{Bool, true, false, cond}
-use mathlib.Core.List.{List, [], ◌∷◌, map}
-use Prim.Native.Nat.{ℕ, zero, suc, ◌+◌, ◌≤◌, ◌<◌}
+use mathlib.Core.List.{List, ◌∷◌, map}
+use Prim.Native.Nat.{ℕ, zero, suc, ◌+◌, ◌≤◌}
 use native.Mathlib.Omega.{arith}
 use lib.Dec.{ltb}
 use borrow.Author.Tests.{ltb-false}
@@ -14,12 +14,11 @@ use Rattle.grammar.specs.Grammar.{Alternation}
 use Rattle.grammar.specs.Brackets.{brackets, max_fields, ninth}
 use Rattle.grammar.specs.WriteOut.{write_out}
 use Rattle.grammar.specs.Refusals as Due
-use Rattle.reader.specs.declared.Answer.{Answer}
 use Rattle.reader.specs.declared.Answer.TheVariants.{Accepted, Refused}
-use Rattle.traces.specs.Fields.{Field, field_at}
+use Rattle.traces.specs.Fields.{field_at}
 use Rattle.fields.specs.declared.Piece.{Piece}
 use Rattle.fields.specs.declared.Prepared.{Prepared}
-use Rattle.fields.specs.Answer.{limited, Told, told_by, tell, due}
+use Rattle.fields.specs.Answer.{limited, Told, told_by, tell}
 use Rattle.fields.specs.Cuts.{no_piece, span_in, field_in, IsCut, Cuts, Lent, PreparedFor, ready, kept, Prepares, says_of, says, Replied}
 
 -- A pattern that is accepted here has at most eight fields.

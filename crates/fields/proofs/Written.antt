@@ -1,8 +1,8 @@
 -- The fields of the written-out pattern: they are numbered as the brackets of the text, none stands inside another of its number, and those inside a bracket of the
 -- text stand inside its field.
 -- Assumes nothing.
-use mathlib.Core.Path.{◌≡◌, refl, sym, ◌∙◌}
-use mathlib.Core.Logic.{◌⊎◌, inl, inr, ◌≢◌}
+use mathlib.Core.Path.{◌≡◌, refl, sym}
+use mathlib.Core.Logic.{inl, inr, ◌≢◌}
 use mathlib.Core.Bool.{Bool, true, false, cond}
 use mathlib.Core.List.{List, [], ◌∷◌, ◌++◌}
 use Prim.Native.Nat.{ℕ, zero, suc, ◌+◌, ◌-◌, ◌≤◌, ◌<◌}
@@ -227,10 +227,14 @@ module _ (sets : Name → ℕ → Bool) (f g : ℕ) where
     inner_above (or q t) n (inr i) = let (a, b) = inner_above t (n + brackets_within q) i in (omega arith, omega arith)
 
     within_above : (q : Sequence) (n : ℕ) → InnerWithin f g q n → (n < g) × (g ≤ n + brackets_within q)
+    within_above nothing n i = elim i [ ]
     within_above (part a r q) n (inl i) = let (b, c) = atom_above a n i in (b, omega arith)
     within_above (part a r q) n (inr i) = let (b, c) = within_above q (n + brackets_atom a) i in (omega arith, omega arith)
 
     atom_above : (a : Atom) (n : ℕ) → InnerAtom f g a n → (n < g) × (g ≤ n + brackets_atom a)
+    atom_above (byte x) n i = elim i [ ]
+    atom_above dot n i = elim i [ ]
+    atom_above (class c x l) n i = elim i [ ]
     atom_above (group t) n (inl (e, l, m)) = (omega arith, omega arith)
     atom_above (group t) n (inr i) = let (a, b) = inner_above t (suc n) i in (omega arith, omega arith)
 
@@ -257,6 +261,7 @@ module _ (sets : Name → ℕ → Bool) (f g : ℕ) where
         (sequence_keeps sets (Under f g) keeps_under q n (each_out q n (after (omega arith))), shape_under t (n + brackets_within q) i)
 
     each_under : (q : Sequence) (n : ℕ) → InnerWithin f g q n → Each sets (Under f g) keeps_under q n
+    each_under nothing n i = elim i [ ]
     each_under (part a r q) n (inl i) =
         let (b, c) = atom_above a n i in
         and_then a r q n (atom_under a n i) (each_out q (n + brackets_atom a) (before (omega arith)))
@@ -265,6 +270,9 @@ module _ (sets : Name → ℕ → Bool) (f g : ℕ) where
         and_then a r q n (without_under f g (shape_atom sets a n) (atom_without sets g a n (after (omega arith)))) (each_under q (n + brackets_atom a) i)
 
     atom_under : (a : Atom) (n : ℕ) → InnerAtom f g a n → Under f g (shape_atom sets a n)
+    atom_under (byte x) n i = elim i [ ]
+    atom_under dot n i = elim i [ ]
+    atom_under (class c x l) n i = elim i [ ]
     atom_under (group t) n (inl (e, l, m)) = bracketed_cases (Under f g) n (shape sets t (suc n)) (λ h. inl (sym e)) (λ h. shape_out t (suc n) (beyond (omega arith)))
     atom_under (group t) n (inr i) =
         let (a, b) = inner_above t (suc n) i in

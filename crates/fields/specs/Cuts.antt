@@ -20,7 +20,6 @@ use Rattle.fields.specs.declared.Piece.{Piece}
 use Rattle.fields.specs.declared.Prepared.{Prepared}
 use Rattle.fields.specs.declared.Reply.{Reply}
 use Rattle.fields.specs.Answer.{Told, refused, spanned, limited, due}
-use Rattle.fields.specs.Answer as Told
 
 -- No span.
 abbrev pub no_piece : Piece

@@ -73,7 +73,8 @@ pub fn prepare(
         };
     }
     let arrays = reading.pattern;
-    follow::marks_of(arrays, marks);
+    // a copy, for the tables are made from the same arrays
+    follow::marks_of(Pattern { ..arrays }, marks);
     readings::fill(arrays, masks, rows, lens, sets, ends, next, hows);
     Prepared {
         answer: answer,
