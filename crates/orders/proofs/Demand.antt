@@ -1,12 +1,12 @@
 -- What the answer to an order line says, from the pattern's bytes and in the words of demand 2.
 -- Assumes nothing.
-use mathlib.Core.Path.{◌≡◌, sym, ◌∙◌, subst}
+use mathlib.Core.Path.{◌≡◌, sym, subst}
 use mathlib.Core.Logic.{◌⊎◌, inl, inr, ◌↔◌}
-use Prim.Native.Nat.{ℕ, ◌≤◌, ◌<◌, min}
+use Prim.Native.Nat.{ℕ, ◌<◌, min}
 use mathlib.Core.List.{List}
 use native.Mathlib.Omega.{arith}
 use native.Mathlib.Decide.{dec_lt}
-use lib.ListN.{length, take, length-take}
+use lib.ListN.{length, length-take}
 use lib.Seq.{take_all}
 use Rattle.theory.specs.Pattern.{Re}
 use Rattle.theory.specs.Demand.{GreedyTakes, PosixTakes, NoMatch}
@@ -23,7 +23,7 @@ use Rattle.printing.specs.Text.{Printed, RefusedLine, SpansLine, none_line}
 use Rattle.lines.specs.declared.State.{State}
 use Rattle.lines.specs.Lines.{kept}
 use Rattle.lines.specs.Answers.{Served}
-use Rattle.orders.specs.Orders.{OrderLine, FieldsOrder, spans, fields, Answered, OrderAnswer, OrdersServed}
+use Rattle.orders.specs.Orders.{OrderLine, spans, Answered, OrderAnswer, OrdersServed}
 
 -- 9 for a line above 1,024 bytes; else the spans that demand 2 asks for, or 'none' where no part of the line matches.
 pub order_means : {r : Re} {l w : List ℕ} → OrderLine r l w

@@ -11,6 +11,7 @@ ghost use Rattle.orders.specs.Orders.{asked_by, spans, fields, Answered, OrdersS
 use lines::{KEPT, SIZE, State};
 use matchers::Spans;
 use reader::Answer;
+use std::io::Read;
 
 // "9, a line above 1,024 bytes".
 pub const MAX_BYTES: usize = 1024;
@@ -196,7 +197,9 @@ pub fn answer_lines<'a>(
 }
 
 // Answers the order lines of the input, until it is over or a read or a write fails.
-pub fn run<'a>(
+pub fn run<'a, P: Print, R: Read>(
+    rt: &P,
+    input: &mut R,
     chunk: &mut [u8; SIZE],
     line: &mut [u8; KEPT],
     out: &mut [u8; SIZE],
@@ -221,7 +224,7 @@ pub fn run<'a>(
         s = answer_lines(
             chunk, line, out, brackets, count, masks, rows, lens, sets, ends, next, hows, marks, s,
         );
-        s = lines::exchange(chunk, out, s);
+        s = lines::exchange(rt, input, chunk, out, s);
         turns -= 1;
     }
     lines::finish(s)
