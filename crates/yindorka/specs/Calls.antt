@@ -2,7 +2,6 @@
 -- Assumes nothing.
 use Rattle.std.specs.Prelude.{◌≡◌, ℕ, suc, ◌+◌, ◌<◌, cond, List, [], ◌∷◌, get_or}
 use Rattle.std.proofs.Math.Option.{Option, some}
-use Rattle.std.proofs.Math.Option as Option
 use Rattle.words.specs.Sets.{has_bit}
 use Rattle.traces.specs.Fields.{field_from, field_at}
 use Rattle.traces.specs.Code.Marks.{Marks}
