@@ -7,9 +7,12 @@ ghost use Rattle.std.specs.Prelude.{◌≡◌};
 
 use lines::{KEPT, SIZE, State};
 use reader::Answer;
+use std::io::Read;
 
 // Prepares the pattern on the first line, and prints its refusal or answers the order lines. Nothing waits then.
-fn serve(
+fn serve<P: Print, R: Read>(
+    rt: &P,
+    input: &mut R,
     chunk: &mut [u8; SIZE],
     line: &mut [u8; KEPT],
     out: &mut [u8; SIZE],
@@ -31,15 +34,17 @@ fn serve(
     let Answer::Refused { number, place } = answer else {
         let marks = [0u16; 4225];
         return orders::run(
-            chunk, line, out, false, 0, masks, rows, lens, sets, ends, next, hows, &marks, first,
+            rt, input, chunk, line, out, false, 0, masks, rows, lens, sets, ends, next, hows,
+            &marks, first,
         );
     };
     let mut s = first;
     s.used = printing::refused(out, 0, number, place);
-    lines::write_out(out, s)
+    lines::write_out(rt, out, s)
 }
 
-fn main() {
+fn main(rt: HostRuntime) {
+    let mut input = rt.reader();
     let mut chunk = [0u8; SIZE];
     let mut line = [0u8; KEPT];
     let mut out = [0u8; SIZE];
@@ -50,13 +55,13 @@ fn main() {
     let mut ends = [0u8; 65];
     let mut next = [0u64; 257];
     let mut hows = [0u8; 10];
-    let mut s = lines::first_line(&mut chunk, &mut line, &out);
+    let mut s = lines::first_line(&rt, &mut input, &mut chunk, &mut line, &out);
     if s.whole {
         s = serve(
-            &mut chunk, &mut line, &mut out, &mut masks, &mut rows, &mut lens, &mut sets,
-            &mut ends, &mut next, &mut hows, s,
+            &rt, &mut input, &mut chunk, &mut line, &mut out, &mut masks, &mut rows, &mut lens,
+            &mut sets, &mut ends, &mut next, &mut hows, s,
         );
     }
     let source = s.source;
-    lines::tell(&mut out, source);
+    lines::tell(&rt, &mut out, source);
 }

@@ -1,0 +1,10 @@
+-- `match_lines::serve` meets its contract: the pattern is refused, or the order lines are answered.
+-- Assumes nothing.
+use Rattle.lines.proofs.Exchanging.{nothing_written}
+use Rattle.match_lines.proofs.serve.Goals as goal
+
+pub returns-in_default : goal.returns-in_default
+returns-in_default g c = c.run.ensures.finished.used
+
+pub returns : goal.returns
+returns g c = nothing_written c.write_out.ensures.written
