@@ -17,7 +17,6 @@ use Rattle.verdict.specs.Checked.{Checked, by_fault}
 use Rattle.verdict.proofs.One.{result}
 use Rattle.verdict.proofs.Checked.{checked_one}
 use Rattle.verdict.proofs.Demand.{unlike_means}
-use Rattle.matchers.specs.declared.Spans.{Spans}
 use Rattle.matchers.specs.declared.Spans.TheVariants.{Nowhere, Located}
 use Rattle.matchers.specs.Cuts.{greedy_of, posix_of}
 use Rattle.readings.specs.declared.Reply.{Reply}

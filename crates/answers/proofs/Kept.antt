@@ -3,11 +3,11 @@
 use mathlib.Core.Path.{◌≡◌, refl, sym, subst}
 use mathlib.Core.Logic.{◌↔◌}
 use mathlib.Core.Bool.{Bool, true, false}
-use Prim.Native.Nat.{ℕ, ◌≤◌, ◌<◌, min}
+use Prim.Native.Nat.{ℕ, ◌<◌, min}
 use mathlib.Core.List.{List}
 use native.Mathlib.Omega.{arith}
 use native.Mathlib.Decide.{dec_lt}
-use lib.ListN.{length, take, length-take}
+use lib.ListN.{length, length-take}
 use lib.Seq.{take_all}
 use Rattle.theory.proofs.Tests.{either}
 use Rattle.grammar.specs.Refusals.{too_long}
@@ -26,7 +26,6 @@ use Rattle.lines.specs.Lines.{kept}
 use Rattle.answers.specs.Line.{AnswerLine}
 use Rattle.answers.specs.declared.Asked.{Asked}
 use Rattle.answers.specs.declared.Asked.TheVariants.{Spans, Details, Groups}
-use Rattle.answers.specs.declared.Asked.TheVariants as Asked
 use Rattle.answers.specs.Answer.{Buffers, Judged, Reported, LengthsAhead, Detailed, GroupsText, Listed, Answer}
 
 -- What a pattern above 255 bytes is refused with: 1 at 255, or the fault of the table of named sets.

@@ -26,7 +26,6 @@ use Rattle.answers.specs.Answer.{Buffers, Reported, ReportedBy, asks_details, Li
 use Rattle.answers.specs.declared.Asked.{Asked}
 use Rattle.answers.specs.contracts.Asked.{the_type}
 use Rattle.answers.specs.declared.Asked.TheVariants.{Spans, Looking, Details, Groups}
-use Rattle.answers.specs.declared.Asked.TheVariants as Asked
 use Rattle.answers.specs.Cutting.{Begun, long, unread, unasked}
 
 module _ {loaded p group lowest group' lowest' : List ℕ} {x : Counted} (shown : Shows loaded p group lowest x group' lowest') where
@@ -73,9 +72,9 @@ no_details Details h = absurd (none_of h)
     none_of : OneOf (0 ∷ 1 ∷ 2 ∷ 4 ∷ []) 3 → ⊥
     none_of h = either (λ e. omega arith) (λ h. either (λ e. omega arith) (λ h. either (λ e. omega arith) (λ e. omega arith) h) h) h
 
-pub a_report : (asked : Asked) → OneOf (2 ∷ 3 ∷ []) (tag_of the_type asked) → (asked ≡ Looking) ⊎ (asked ≡ Details)
-a_report Looking h = inl refl
-a_report Details h = inr refl
-a_report Asked.Verdict h = absurd (either (λ e. omega arith) (λ e. omega arith) h)
-a_report Spans h = absurd (either (λ e. omega arith) (λ e. omega arith) h)
-a_report Groups h = absurd (either (λ e. omega arith) (λ e. omega arith) h)
+pub a_report : (asked : Asked) → (asked ≡ Asked.Verdict → ⊥) → (asked ≡ Spans → ⊥) → (asked ≡ Groups → ⊥) → (asked ≡ Looking) ⊎ (asked ≡ Details)
+a_report Looking f g h = inl refl
+a_report Details f g h = inr refl
+a_report Asked.Verdict f g h = absurd (f refl)
+a_report Spans f g h = absurd (g refl)
+a_report Groups f g h = absurd (h refl)

@@ -15,7 +15,6 @@ use Rattle.checker.specs.Verdicts.{Checks}
 use Rattle.checker.specs.Looking.{Reports}
 use Rattle.answers.specs.declared.Asked.{Asked}
 use Rattle.answers.specs.declared.Asked.TheVariants.{Spans, Looking, Details, Groups}
-use Rattle.answers.specs.declared.Asked.TheVariants as Asked
 use Rattle.answers.specs.Line.{SpansLineOf, AnswerLine}
 
 -- What the checker is lent: table, witness buffer and area.

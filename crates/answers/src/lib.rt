@@ -13,6 +13,7 @@ ghost use Rattle.answers.specs.Cutting.{MadeReadable, Shown, Explained, Begun};
 use checker::Verdict;
 use lines::{KEPT, SIZE, State};
 use matchers::Spans;
+use std::io::Read;
 
 // What is lent to the checker for each pattern: a table with 1,074 slots for 64 leaves and 5,041 for none, a witness buffer, and an area. A witness has fewer bytes than
 // there are records, so none is longer than the buffer (`witness_lent`), and the area is long enough for the test (`area_lent`).
@@ -244,7 +245,9 @@ pub fn answer_lines(
 }
 
 // Answers the patterns of the input, until it is over or a read or a write fails.
-pub fn run(
+pub fn run<P: Print, R: Read>(
+    rt: &P,
+    input: &mut R,
     loaded: &[u8],
     chunk: &mut [u8; SIZE],
     line: &mut [u8; KEPT],
@@ -262,7 +265,7 @@ pub fn run(
     let mut turns = u64::MAX;
     while turns > 0 && lines::goes_on(s) {
         s = answer_lines(loaded, chunk, line, out, table, witness, area, asked, s);
-        s = lines::exchange(chunk, out, s);
+        s = lines::exchange(rt, input, chunk, out, s);
         turns -= 1;
     }
     lines::finish(s)
