@@ -5,7 +5,8 @@
 use answers::Asked;
 use lines::{KEPT, SIZE};
 
-fn main() {
+fn main(rt: HostRuntime) {
+    let mut input = rt.reader();
     let mut chunk = [0u8; SIZE];
     let mut line = [0u8; KEPT];
     let mut out = [0u8; SIZE];
@@ -14,6 +15,8 @@ fn main() {
     let mut area = [0u8; answers::AREA];
     let fixed = sets::fixed();
     let s = answers::run(
+        &rt,
+        &mut input,
         &fixed,
         &mut chunk,
         &mut line,
@@ -25,5 +28,5 @@ fn main() {
         lines::start(),
     );
     let source = s.source;
-    lines::tell(&mut out, source);
+    lines::tell(&rt, &mut out, source);
 }
