@@ -9,6 +9,7 @@ ghost use Rattle.lines.specs.Exchange.{Finished};
 
 use checker::Verdict;
 use lines::{KEPT, SIZE, State};
+use std::io::Read;
 
 // How many bytes can be lent, and how many a pattern can have.
 const TABLE: usize = 8192;
@@ -181,7 +182,13 @@ fn call(
 }
 
 // Answers the calls of the input, until it is over or a read or a write fails.
-fn run(chunk: &mut [u8; SIZE], line: &mut [u8; KEPT], out: &mut [u8; SIZE]) -> State
+fn run<P: Print, R: Read>(
+    rt: &P,
+    input: &mut R,
+    chunk: &mut [u8; SIZE],
+    line: &mut [u8; KEPT],
+    out: &mut [u8; SIZE],
+) -> State
     ensures { Finished result }
 {
     let mut table = [0u8; TABLE];
@@ -195,17 +202,18 @@ fn run(chunk: &mut [u8; SIZE], line: &mut [u8; KEPT], out: &mut [u8; SIZE]) -> S
             let text = lines::first_of(line, s.n);
             s.used = call(out, 0, text, &mut table, &mut witness, &mut area);
         }
-        s = lines::exchange(chunk, out, s);
+        s = lines::exchange(rt, input, chunk, out, s);
         turns -= 1;
     }
     lines::finish(s)
 }
 
-fn main() {
+fn main(rt: HostRuntime) {
+    let mut input = rt.reader();
     let mut chunk = [0u8; SIZE];
     let mut line = [0u8; KEPT];
     let mut out = [0u8; SIZE];
-    let s = run(&mut chunk, &mut line, &mut out);
+    let s = run(&rt, &mut input, &mut chunk, &mut line, &mut out);
     let source = s.source;
-    lines::tell(&mut out, source);
+    lines::tell(&rt, &mut out, source);
 }
