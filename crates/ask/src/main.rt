@@ -23,6 +23,7 @@ use lines::{KEPT, SIZE, State};
 use queries::{Loading, Query};
 use reader::Answer;
 use sets::Checked;
+use std::io::Read;
 
 // Prepares the pattern after the first `skip` bytes of the line, for its fields or for both spans.
 fn prepare(
@@ -56,7 +57,9 @@ fn prepare(
 }
 
 // Prepares the pattern after the word, and prints its refusal or answers the order lines. Nothing waits then.
-fn serve_orders(
+fn serve_orders<P: Print, R: Read>(
+    rt: &P,
+    input: &mut R,
     loaded: &[u8],
     chunk: &mut [u8; SIZE],
     line: &mut [u8; KEPT],
@@ -83,17 +86,19 @@ fn serve_orders(
     let count = ready.count;
     let Answer::Refused { number, place } = answer else {
         return orders::run(
-            chunk, line, out, brackets, count, &masks, &rows, &lens, &sets, &ends, &next, &hows,
-            &marks, first,
+            rt, input, chunk, line, out, brackets, count, &masks, &rows, &lens, &sets, &ends,
+            &next, &hows, &marks, first,
         );
     };
     let mut s = first;
     s.used = printing::refused(out, 0, number, place);
-    lines::write_out(out, s)
+    lines::write_out(rt, out, s)
 }
 
 // Answers what is asked for the patterns on the lines after the first. Nothing waits then.
-fn serve_patterns(
+fn serve_patterns<P: Print, R: Read>(
+    rt: &P,
+    input: &mut R,
     loaded: &[u8],
     chunk: &mut [u8; SIZE],
     line: &mut [u8; KEPT],
@@ -107,6 +112,8 @@ fn serve_patterns(
     let mut witness = [0u8; answers::WITNESS];
     let mut area = [0u8; answers::AREA];
     answers::run(
+        rt,
+        input,
         loaded,
         chunk,
         line,
@@ -120,12 +127,12 @@ fn serve_patterns(
 }
 
 // Nothing is known by that word.
-fn unknown(out: &mut [u8; SIZE], first: State) -> State
+fn unknown<P: Print>(rt: &P, out: &mut [u8; SIZE], first: State) -> State
     ensures { result.used ≡ 0 }
 {
     let mut s = first;
     s.used = printing::text(out, 0, b"unknown");
-    lines::write_out(out, s)
+    lines::write_out(rt, out, s)
 }
 
 // Puts the table at the start of the output, or the refusal of one that fails.
@@ -140,16 +147,18 @@ fn table_line(loaded: &[u8], out: &mut [u8; SIZE]) -> usize
 }
 
 // Prints the table, or its refusal. Nothing waits then.
-fn serve_table(loaded: &[u8], out: &mut [u8; SIZE], first: State) -> State
+fn serve_table<P: Print>(rt: &P, loaded: &[u8], out: &mut [u8; SIZE], first: State) -> State
     ensures { result.used ≡ 0 }
 {
     let mut s = first;
     s.used = table_line(loaded, out);
-    lines::write_out(out, s)
+    lines::write_out(rt, out, s)
 }
 
 // Answers what is asked by the word at a place of the first line, with the table that is loaded.
-fn serve_query(
+fn serve_query<P: Print, R: Read>(
+    rt: &P,
+    input: &mut R,
     loaded: &[u8],
     chunk: &mut [u8; SIZE],
     line: &mut [u8; KEPT],
@@ -161,13 +170,31 @@ fn serve_query(
 {
     let query = queries::query_at(lines::first_of(line, first.n), at);
     match query {
-        Query::Spans { at } => serve_orders(loaded, chunk, line, out, at, false, first),
-        Query::Fields { at } => serve_orders(loaded, chunk, line, out, at, true, first),
-        Query::Groups => serve_patterns(loaded, chunk, line, out, Asked::Groups, first),
-        Query::Looking => serve_patterns(loaded, chunk, line, out, Asked::Looking, first),
-        Query::Details => serve_patterns(loaded, chunk, line, out, Asked::Details, first),
-        Query::Table => serve_table(loaded, out, first),
-        Query::Unknown => unknown(out, first),
+        Query::Spans { at } => serve_orders(rt, input, loaded, chunk, line, out, at, false, first),
+        Query::Fields { at } => serve_orders(rt, input, loaded, chunk, line, out, at, true, first),
+        Query::Groups => serve_patterns(rt, input, loaded, chunk, line, out, Asked::Groups, first),
+        Query::Looking => serve_patterns(
+            rt,
+            input,
+            loaded,
+            chunk,
+            line,
+            out,
+            Asked::Looking,
+            first,
+        ),
+        Query::Details => serve_patterns(
+            rt,
+            input,
+            loaded,
+            chunk,
+            line,
+            out,
+            Asked::Details,
+            first,
+        ),
+        Query::Table => serve_table(rt, loaded, out, first),
+        Query::Unknown => unknown(rt, out, first),
     }
 }
 
@@ -179,7 +206,14 @@ fn first_entries(table: &[u8; queries::ENTRIES], n: usize) -> &[u8]
 }
 
 // With the table of named sets that the first line begins with, or the fixed one.
-fn serve(chunk: &mut [u8; SIZE], line: &mut [u8; KEPT], out: &mut [u8; SIZE], first: State) -> State
+fn serve<P: Print, R: Read>(
+    rt: &P,
+    input: &mut R,
+    chunk: &mut [u8; SIZE],
+    line: &mut [u8; KEPT],
+    out: &mut [u8; SIZE],
+    first: State,
+) -> State
     ensures { result.used ≡ 0 }
 {
     let mut table = [0u8; queries::ENTRIES];
@@ -187,23 +221,33 @@ fn serve(chunk: &mut [u8; SIZE], line: &mut [u8; KEPT], out: &mut [u8; SIZE], fi
     match loading {
         Loading::Fixed => {
             let fixed = sets::fixed();
-            serve_query(&fixed, chunk, line, out, 0, first)
+            serve_query(rt, input, &fixed, chunk, line, out, 0, first)
         }
         Loading::Own { entries, at } => {
-            serve_query(first_entries(&table, entries), chunk, line, out, at, first)
+            serve_query(
+                rt,
+                input,
+                first_entries(&table, entries),
+                chunk,
+                line,
+                out,
+                at,
+                first,
+            )
         }
-        Loading::Broken => unknown(out, first),
+        Loading::Broken => unknown(rt, out, first),
     }
 }
 
-fn main() {
+fn main(rt: HostRuntime) {
+    let mut input = rt.reader();
     let mut chunk = [0u8; SIZE];
     let mut line = [0u8; KEPT];
     let mut out = [0u8; SIZE];
-    let mut s = lines::first_line(&mut chunk, &mut line, &out);
+    let mut s = lines::first_line(&rt, &mut input, &mut chunk, &mut line, &out);
     if s.whole {
-        s = serve(&mut chunk, &mut line, &mut out, s);
+        s = serve(&rt, &mut input, &mut chunk, &mut line, &mut out, s);
     }
     let source = s.source;
-    lines::tell(&mut out, source);
+    lines::tell(&rt, &mut out, source);
 }
