@@ -80,7 +80,7 @@ fn run<P: Print, R: Read>(
 }
 
 fn main(rt: HostRuntime) {
-    let mut input = rt.reader();
+    let mut input = rt.stdin();
     let mut chunk = [0u8; SIZE];
     let mut line = [0u8; KEPT];
     let mut out = [0u8; SIZE];
