@@ -17,16 +17,17 @@ use Rattle.grammar.proofs.Loaded.{passes_or_fails, accepts_not_refuses, one_answ
 use Rattle.verdict.specs.Tabled.{refused, whole}
 use Rattle.verdict.specs.Checked.{by_fault}
 use Rattle.verdict.proofs.Checked.{checked_one, checked_is}
+use Rattle.std.specs.Prelude.{Result, Ok, Err}
+use Rattle.reader.specs.declared.refusal.Refusal.{Refusal}
 use Rattle.checker.specs.declared.Verdict.{Verdict}
-use Rattle.checker.specs.declared.Verdict.TheVariants.{Alike, Unlike, Refused}
+use Rattle.checker.specs.declared.Verdict.TheVariants.{Alike, Unlike}
 use Rattle.checker.specs.Verdicts.{result_of, Checks}
 use Rattle.checker.specs.Looking.{LooksFor, unread, unsearched, searched}
 use Rattle.search.specs.declared.Looking.{Looking}
 use Rattle.lines.specs.Lines.{kept}
 use Rattle.answers.specs.Line.{AnswerLine}
-use Rattle.answers.specs.declared.Asked.{Asked}
-use Rattle.answers.specs.declared.Asked.TheVariants.{Spans, Details, Groups}
-use Rattle.answers.specs.Answer.{Buffers, Judged, Reported, LengthsAhead, Detailed, GroupsText, Listed, Answer}
+use Rattle.answers.specs.declared.Buffers.{Buffers}
+use Rattle.answers.specs.Answer.{Asked, for_verdict, for_spans, for_looking, for_details, for_groups, Judged, Reported, LengthsAhead, Detailed, GroupsText, Listed, Answer}
 
 -- What a pattern above 255 bytes is refused with: 1 at 255, or the fault of the table of named sets.
 long_refusal : (loaded : List ℕ) → (n i : ℕ) × ((p : List ℕ) → 255 < length p → Refuses loaded p n i)
@@ -45,16 +46,16 @@ module _ (loaded : List ℕ) where
 
   -- Of a pattern above 255 bytes nothing else is looked at.
   module _ (x y : Buffers) {p q : List ℕ} (h : 255 < length p) (k : 255 < length q) where
-    long_line : (spans : Bool) (v : Verdict) (w : List ℕ) → Checks loaded p x.table x.witness x.area v y.table y.witness y.area → AnswerLine loaded spans p v y.witness w
+    long_line : (spans : Bool) (v : Result Verdict Refusal) (w : List ℕ) → Checks loaded p x.table x.witness x.area v y.table y.witness y.area → AnswerLine loaded spans p v y.witness w
         → Checks loaded q x.table x.witness x.area v y.table y.witness y.area × AnswerLine loaded spans q v y.witness w
     long_line spans v w c l = go spans v l (checked_one c (by_fault (too_long_lem p h)))
       where
-        go : (s : Bool) (v : Verdict) → AnswerLine loaded s p v y.witness w → (whole (result_of v) y.table y.witness ≡ whole (refused number place) x.table x.witness) × (y.area ≡ x.area)
+        go : (s : Bool) (v : Result Verdict Refusal) → AnswerLine loaded s p v y.witness w → (whole (result_of v) y.table y.witness ≡ whole (refused number place) x.table x.witness) × (y.area ≡ x.area)
             → Checks loaded q x.table x.witness x.area v y.table y.witness y.area × AnswerLine loaded s q v y.witness w
-        go s (Alike n) l (e, f) = absurd (let z : ◌≡◌ {A = ℕ} 0 1 = cc in omega arith)
-        go s (Unlike n m) l (e, f) = absurd (let z : ◌≡◌ {A = ℕ} 0 1 = cc in omega arith)
-        go true (Refused n m) l (e, f) = ((checked_is (by_fault (too_long_lem q k)) _ _).1 (e, f), l)
-        go false (Refused n m) l (e, f) = ((checked_is (by_fault (too_long_lem q k)) _ _).1 (e, f), l)
+        go s (Ok (Alike n)) l (e, f) = absurd (let z : ◌≡◌ {A = ℕ} 0 1 = cc in omega arith)
+        go s (Ok (Unlike n m)) l (e, f) = absurd (let z : ◌≡◌ {A = ℕ} 0 1 = cc in omega arith)
+        go true (Err r) l (e, f) = ((checked_is (by_fault (too_long_lem q k)) _ _).1 (e, f), l)
+        go false (Err r) l (e, f) = ((checked_is (by_fault (too_long_lem q k)) _ _).1 (e, f), l)
 
     long_looking : {z : Looking} → LooksFor loaded p x.table x.area z → LooksFor loaded q x.table x.area z
     long_looking (unread f) = unread (too_long_lem q k)
@@ -98,11 +99,11 @@ module _ (loaded : List ℕ) where
         }
 
   long_answer : (asked : Asked) (x y : Buffers) (p q w : List ℕ) → 255 < length p → 255 < length q → Answer loaded asked x p w y → Answer loaded asked x q w y
-  long_answer Asked.Verdict x y p q w h k a = long_judged x y h k a
-  long_answer Spans x y p q w h k a = long_judged x y h k a
-  long_answer Asked.Looking x y p q w h k a = long_reported x y h k a
-  long_answer Details x y p q w h k a = long_detailed h k x y a
-  long_answer Groups x y p q w h k a = (long_listed h k a.0, a.1)
+  long_answer for_verdict x y p q w h k a = long_judged x y h k a
+  long_answer for_spans x y p q w h k a = long_judged x y h k a
+  long_answer for_looking x y p q w h k a = long_reported x y h k a
+  long_answer for_details x y p q w h k a = long_detailed h k x y a
+  long_answer for_groups x y p q w h k a = (long_listed h k a.0, a.1)
 
 -- WHAT IS KEPT IS ENOUGH: a pattern and its first 1,025 bytes have the same answer.
 pub answer_kept : (loaded : List ℕ) (asked : Asked) (x y : Buffers) (p w : List ℕ) → Answer loaded asked x (kept p) w y ↔ Answer loaded asked x p w y

@@ -3,3 +3,4 @@ mod Cutting
 mod Listing
 pub mod Kept
 pub mod Lent
+pub mod Serving

@@ -2,17 +2,18 @@
 // match can be; or the pattern's byte groups; and the answers to the patterns of the input.
 #![tactic(auto)]
 
-ghost use Rattle.std.specs.Prelude.{◌≡◌, ◌≤◌, length, take};
-ghost use Rattle.lines.specs.Answers.{Served};
+ghost use Rattle.std.specs.Prelude.{◌≡◌, ◌≤◌, false, length, take, replicate};
+ghost use Rattle.lines.specs.Lines.{goes_on};
 ghost use Rattle.lines.specs.Exchange.{Finished};
-ghost use Rattle.printing.specs.Text.{room, Printed};
+ghost use Rattle.printing.specs.Text.{room, Prints};
 ghost use Rattle.answers.specs.Line.{LineOf};
-ghost use Rattle.answers.specs.Answer.{buffers, Judged, ReportedBy, asks_details, Listed, Answer, Answered};
+ghost use Rattle.answers.specs.Answer.{Asked, for_verdict, for_spans, for_looking, for_details, for_groups, Reported, Answer, Answered};
 ghost use Rattle.answers.specs.Cutting.{MadeReadable, Shown, Explained, Begun};
 
 use checker::Verdict;
-use lines::{KEPT, SIZE, State};
-use matchers::Spans;
+use lines::{Input, Responder};
+use printing::Output;
+use reader::refusal::Refusal;
 use std::io::Read;
 
 // What is lent to the checker for each pattern: a table with 1,074 slots for 64 leaves and 5,041 for none, a witness buffer, and an area. A witness has fewer bytes than
@@ -23,250 +24,259 @@ pub const WITNESS: usize = 5041;
 
 pub const AREA: usize = 1024;
 
+#[derive(Drop)]
+pub struct Buffers {
+    pub table: [u8; TABLE],
+    pub witness: [u8; WITNESS],
+    pub area: [u8; AREA],
+}
+
 // No printed line is longer: a report with how long a match can be, and a witness of 5,041 bytes in hex, twice.
 const LONGEST: usize = 20417;
 
 // What is asked for a pattern.
-#[derive(Clone, Copy)]
-pub enum Asked {
-    // the verdict
-    Verdict,
-    // the same with both spans of the witness and its readable form
-    Spans,
-    // this, and before it how much looking it took
-    Looking,
-    // and before this how long a match can be
-    Details,
-    // its byte groups
-    Groups,
+pub trait Question {
+    ghost asked: { Asked };
+
+    // Appends the answer for a pattern, with the named sets that are loaded. The buffers are lent to the checker.
+    fn answer(&self, loaded: &[u8], pattern: &[u8], lent: &mut Buffers, out: &mut Output)
+        ensures { Answered loaded.now asked lent.old pattern.now lent.new out.old out.new };
 }
 
-// Appends the verdict's line to the buffer, which held n bytes, and returns how many it holds now. The witness stands at the start of its buffer.
-pub fn verdict(out: &mut [u8; SIZE], n: usize, x: Verdict, witness: &[u8]) -> usize
-    ensures printed { Printed (room 50 witness.now) (LineOf x witness.now) out.old n out.new result }
+// The verdict.
+#[derive(Drop)]
+pub struct Verdicts;
+
+// The same with both spans of the witness and its readable form.
+#[derive(Drop)]
+pub struct Spans;
+
+// This, and before it how much looking it took.
+#[derive(Drop)]
+pub struct Looking;
+
+// And before this how long a match can be.
+#[derive(Drop)]
+pub struct Details;
+
+// Its byte groups.
+#[derive(Drop)]
+pub struct Groups;
+
+// Appends the verdict's line. The witness stands at the start of its buffer.
+pub fn verdict(out: &mut Output, x: Result<Verdict, Refusal>, witness: &[u8])
+    ensures printed { Prints (room 50 witness.now) (LineOf x witness.now) out.old out.new }
 {
     match x {
-        Verdict::Alike { count } => printing::alike(out, n, count),
-        Verdict::Unlike { count, length } => printing::unlike(out, n, count, length, witness),
-        Verdict::Refused { number, place } => printing::refused(out, n, number, place),
+        Ok(found) => match found {
+            Verdict::Alike { count } => out.alike(count),
+            Verdict::Unlike { count, length } => out.unlike(count, length, witness),
+        },
+        Err(e) => out.refused(e.fault.number(), e.place),
     }
 }
 
-// Makes the first n bytes of a line readable.
+// Makes the first n bytes of a line readable. Table of named sets and pattern are two parameters here and below, as they are the reader's.
 fn make_readable(loaded: &[u8], pattern: &[u8], line: &mut [u8], n: usize)
     requires { n ≤ length line.old }
     ensures { MadeReadable loaded.now pattern.now (take n line.old) (take n line.new) }
 {
-    screen::readable(loaded, pattern, &mut line[..n]);
+    let _ = screen::readable(loaded, pattern, &mut line[..n]);
 }
 
-// Appends the verdict unlike with both spans of the witness and its readable form. A line that is not cut differently may have no span.
+// Appends the verdict unlike with both spans of the witness and its readable form. A line that is not cut differently may have no span. The length goes beside the buffer,
+// as the checker hands it over.
 fn cut_witness<'a>(
-    out: &mut [u8; SIZE],
-    n: usize,
+    out: &mut Output,
     loaded: &'a [u8],
     pattern: &'a [u8],
     count: usize,
     length: usize,
     witness: &'a [u8; WITNESS],
-) -> usize
-    ensures { Printed (room (room 136 witness.now) witness.now) (Shown loaded.now pattern.now count (take length witness.now)) out.old n out.new result }
+)
+    ensures { Prints (room (room 136 witness.now) witness.now) (Shown loaded.now pattern.now count (take length witness.now)) out.old out.new }
 {
-    let reply = readings::cut_line(loaded, pattern, lines::first_of(witness, length));
-    let spans = reply.spans;
-    let Spans::Located {
-        start,
-        greedy,
-        posix,
-    } = spans
-    else {
-        return printing::unlike(out, n, count, length, witness);
+    let cut = readings::cut_line(loaded, pattern, lines::first_of(witness, length));
+    let Ok(spans) = cut else {
+        out.unlike(count, length, witness);
+        return;
+    };
+    let Some(x) = spans else {
+        out.unlike(count, length, witness);
+        return;
     };
     let mut readable = *witness;
-    let end = words::least(length, words::length_of(witness));
+    let end = length.min(WITNESS);
     make_readable(loaded, pattern, &mut readable, end);
-    printing::explained(out, n, count, end, witness, start, greedy, posix, &readable)
+    out.explained(count, end, witness, x.start, x.greedy, x.posix, &readable);
 }
 
 // Appends the verdict's line, with both spans of the witness and its readable form where there is one.
 fn explained<'a>(
-    out: &mut [u8; SIZE],
-    n: usize,
+    out: &mut Output,
     loaded: &'a [u8],
     pattern: &'a [u8],
-    x: Verdict,
+    x: Result<Verdict, Refusal>,
     witness: &'a [u8; WITNESS],
-) -> usize
-    ensures { Explained loaded.now pattern.now x witness.now out.old n out.new result }
+)
+    ensures { Explained loaded.now pattern.now x witness.now out.old out.new }
 {
     match x {
-        Verdict::Alike { count } => printing::alike(out, n, count),
-        Verdict::Unlike { count, length } => cut_witness(
-            out, n, loaded, pattern, count, length, witness,
-        ),
-        Verdict::Refused { number, place } => printing::refused(out, n, number, place),
+        Ok(found) => match found {
+            Verdict::Alike { count } => out.alike(count),
+            Verdict::Unlike { count, length } => {
+                cut_witness(out, loaded, pattern, count, length, witness)
+            }
+        },
+        Err(e) => out.refused(e.fault.number(), e.place),
     }
 }
 
-// Appends the checker's verdict on a pattern; `spans` asks for the spans of the witness and its readable form. The buffers are the checker's.
-fn judge<'a>(
-    out: &mut [u8; SIZE],
-    n: usize,
-    loaded: &'a [u8],
-    pattern: &'a [u8],
-    table: &mut [u8; TABLE],
-    witness: &mut [u8; WITNESS],
-    area: &mut [u8; AREA],
-    spans: bool,
-) -> usize
-    ensures { Printed 20300 (λ w. Judged loaded.now spans (buffers table.old witness.old area.old) pattern.now w (buffers table.new witness.new area.new))
-        out.old n out.new result }
+// Appends how long a match of a pattern can be, if the pattern is not refused.
+fn ahead(out: &mut Output, loaded: &[u8], pattern: &[u8])
+    ensures { Begun loaded.now pattern.now out.old out.new }
 {
-    let x = checker::check(loaded, pattern, table, witness, area);
-    if spans {
-        return explained(out, n, loaded, pattern, x, witness);
-    }
-    verdict(out, n, x, witness)
-}
-
-// Appends how long a match of a pattern can be, if that is asked for and the pattern is not refused.
-fn ahead(out: &mut [u8; SIZE], n: usize, loaded: &[u8], pattern: &[u8], asked: bool) -> usize
-    ensures { Begun loaded.now asked pattern.now out.old n out.new result }
-{
-    if asked {
-        let reading = reader::read(loaded, pattern);
-        let answer = reading.answer;
-        let own = reading.lengths;
-        let greatest = own.greatest;
-        let reader::Answer::Accepted = answer else {
-            return n;
-        };
-        let limited = lengths::is_limited(greatest);
-        let most = lengths::bytes_of(greatest);
-        return printing::lengths(out, n, own.least, limited, most);
-    }
-    n
-}
-
-// Appends how much looking the check of a pattern took, and the verdict with the spans of the witness and its readable form; `details` asks for how long a match can be,
-// before that.
-fn report<'a>(
-    out: &mut [u8; SIZE],
-    n: usize,
-    loaded: &'a [u8],
-    pattern: &'a [u8],
-    table: &mut [u8; TABLE],
-    witness: &mut [u8; WITNESS],
-    area: &mut [u8; AREA],
-    details: bool,
-) -> usize
-    ensures { Printed 20417 (λ w. ReportedBy loaded.now details (buffers table.old witness.old area.old) pattern.now w (buffers table.new witness.new area.new))
-        out.old n out.new result }
-{
-    let start = ahead(out, n, loaded, pattern, details);
-    let x = checker::check_looking(loaded, pattern, table, witness, area);
-    let looking = x.looking;
-    let verdict = x.verdict;
-    let head = printing::looking(out, start, looking.looks, looking.comparisons);
-    explained(out, head, loaded, pattern, verdict, witness)
-}
-
-// Appends the number of each byte's group, or the pattern's refusal.
-fn list_groups(out: &mut [u8; SIZE], n: usize, loaded: &[u8], pattern: &[u8]) -> usize
-    ensures { Printed 5383 (Listed loaded.now pattern.now) out.old n out.new result }
-{
-    let mut group = [0u8; 256];
-    let mut lowest = [0u8; 256];
-    let own = screen::groups(loaded, pattern, &mut group, &mut lowest);
-    let answer = own.answer;
-    let reader::Answer::Refused { number, place } = answer else {
-        return printing::groups(out, n, &group);
-    };
-    printing::refused(out, n, number, place)
-}
-
-fn asks_details(asked: Asked) -> bool
-    ensures { result ≡ asks_details asked }
-{
-    match asked {
-        Asked::Details => true,
-        _ => false,
+    if let Ok(reading) = reader::read(loaded, pattern) {
+        out.lengths(reading.lengths.least, reading.lengths.greatest);
     }
 }
 
-// Appends what is asked for a pattern. Groups need no buffer.
-pub fn answer<'a>(
-    out: &mut [u8; SIZE],
-    n: usize,
-    loaded: &'a [u8],
-    pattern: &'a [u8],
-    table: &mut [u8; TABLE],
-    witness: &mut [u8; WITNESS],
-    area: &mut [u8; AREA],
-    asked: Asked,
-) -> usize
-    ensures answered { Answered loaded.now asked (buffers table.old witness.old area.old) pattern.now (buffers table.new witness.new area.new)
-        out.old n out.new result }
-{
-    let details = asks_details(asked);
-    match asked {
-        Asked::Verdict => judge(out, n, loaded, pattern, table, witness, area, false),
-        Asked::Spans => judge(out, n, loaded, pattern, table, witness, area, true),
-        Asked::Groups => list_groups(out, n, loaded, pattern),
-        // one call for both, so that a program that asks for neither is built without it
-        _ => report(out, n, loaded, pattern, table, witness, area, details),
-    }
-}
-
-// Answers the patterns whose lines end in the chunk, in their order, while there is room for a further answer.
-pub fn answer_lines(
-    loaded: &[u8],
-    chunk: &[u8; SIZE],
-    line: &mut [u8; KEPT],
-    out: &mut [u8; SIZE],
-    table: &mut [u8; TABLE],
-    witness: &mut [u8; WITNESS],
-    area: &mut [u8; AREA],
-    asked: Asked,
-    state: State,
-) -> State
-    ensures served { Served (Answer loaded.now asked) 20417 chunk.now line.old out.old (buffers table.old witness.old area.old) state
-        line.new out.new (buffers table.new witness.new area.new) result }
-{
-    let mut s = state;
-    while s.at < s.end && lines::has_room(s.used, LONGEST) {
-        s = lines::next_line(chunk, line, s);
-        if s.whole {
-            let pattern = lines::first_of(line, s.n);
-            s.used = answer(out, s.used, loaded, pattern, table, witness, area, asked);
+impl Buffers {
+    // Nothing is checked yet.
+    pub fn new() -> Buffers
+        ensures new { result ≡ record { table = replicate 65536 0; witness = replicate 5041 0; area = replicate 1024 0 } }
+    {
+        Buffers {
+            table: [0; TABLE],
+            witness: [0; WITNESS],
+            area: [0; AREA],
         }
     }
-    s
+
+    // Appends how much looking the check of a pattern took, and the verdict with the spans of the witness and its readable form.
+    fn report(&mut self, loaded: &[u8], pattern: &[u8], out: &mut Output)
+        ensures { Prints 20360 (λ w. Reported loaded.now self.old pattern.now w self.new) out.old out.new }
+    {
+        let x = checker::check_looking(
+            loaded,
+            pattern,
+            &mut self.table,
+            &mut self.witness,
+            &mut self.area,
+        );
+        out.looking(x.looking.looks, x.looking.comparisons);
+        explained(out, loaded, pattern, x.verdict, &self.witness);
+    }
+}
+
+impl Question for Verdicts {
+    ghost asked = { for_verdict };
+
+    fn answer(&self, loaded: &[u8], pattern: &[u8], lent: &mut Buffers, out: &mut Output) {
+        let x = checker::check(
+            loaded,
+            pattern,
+            &mut lent.table,
+            &mut lent.witness,
+            &mut lent.area,
+        );
+        verdict(out, x, &lent.witness);
+    }
+}
+
+impl Question for Spans {
+    ghost asked = { for_spans };
+
+    fn answer(&self, loaded: &[u8], pattern: &[u8], lent: &mut Buffers, out: &mut Output) {
+        let x = checker::check(
+            loaded,
+            pattern,
+            &mut lent.table,
+            &mut lent.witness,
+            &mut lent.area,
+        );
+        explained(out, loaded, pattern, x, &lent.witness);
+    }
+}
+
+impl Question for Looking {
+    ghost asked = { for_looking };
+
+    fn answer(&self, loaded: &[u8], pattern: &[u8], lent: &mut Buffers, out: &mut Output) {
+        lent.report(loaded, pattern, out);
+    }
+}
+
+impl Question for Details {
+    ghost asked = { for_details };
+
+    fn answer(&self, loaded: &[u8], pattern: &[u8], lent: &mut Buffers, out: &mut Output) {
+        ahead(out, loaded, pattern);
+        lent.report(loaded, pattern, out);
+    }
+}
+
+impl Question for Groups {
+    ghost asked = { for_groups };
+
+    // Groups need no buffer.
+    fn answer(&self, loaded: &[u8], pattern: &[u8], _lent: &mut Buffers, out: &mut Output) {
+        match screen::groups(loaded, pattern) {
+            Ok(own) => out.groups(&own.group),
+            Err(e) => out.refused(e.fault.number(), e.place),
+        }
+    }
+}
+
+// The answers to patterns: the table of named sets that is loaded, what is lent to the checker, and what is asked.
+#[derive(Drop)]
+pub struct Patterns<'a, Q> {
+    pub loaded: &'a [u8],
+    pub lent: Buffers,
+    pub question: Q,
+}
+
+impl<'a, Q: Question> Responder for Patterns<'a, Q> {
+    ghost answers = { λ x l w y. (y.loaded.now ≡ x.loaded.now) × Answer x.loaded.now Q.asked x.lent l w y.lent };
+
+    ghost LONGEST = { 20417 };
+
+    fn longest(&self) -> usize {
+        LONGEST
+    }
+
+    fn answer(&mut self, out: &mut Output, line: &[u8]) {
+        self.question.answer(self.loaded, line, &mut self.lent, out);
+    }
 }
 
 // Answers the patterns of the input, until it is over or a read or a write fails.
-pub fn run<P: Print, R: Read>(
+pub fn run<P: Print, R: Read, Q: Question + Drop>(
     rt: &P,
-    input: &mut R,
+    reader: &mut R,
+    input: &mut Input,
+    out: &mut Output,
     loaded: &[u8],
-    chunk: &mut [u8; SIZE],
-    line: &mut [u8; KEPT],
-    out: &mut [u8; SIZE],
-    table: &mut [u8; TABLE],
-    witness: &mut [u8; WITNESS],
-    area: &mut [u8; AREA],
-    asked: Asked,
-    first: State,
-) -> State
-    ensures finished { Finished result }
+    question: Q,
+)
+    ensures finished { Finished input.new out.new }
 {
-    let mut s = first;
-    s.used = 0;
-    let mut turns = u64::MAX;
-    while turns > 0 && lines::goes_on(s) {
-        s = answer_lines(loaded, chunk, line, out, table, witness, area, asked, s);
-        s = lines::exchange(rt, input, chunk, out, s);
-        turns -= 1;
-    }
-    lines::finish(s)
+    out.used = 0;
+    let mut patterns = Patterns {
+        loaded,
+        lent: Buffers::new(),
+        question,
+    };
+    input.run(rt, reader, &mut patterns, out);
+}
+
+// The input of a program that answers patterns with the fixed table of named sets, when there is no further line.
+pub fn serve<P: Print, R: Read, Q: Question + Drop>(rt: &P, reader: &mut R, question: Q) -> Input
+    ensures ended { goes_on result ≡ false }
+{
+    let fixed = sets::fixed();
+    let mut input = Input::new();
+    let mut out = Output::new();
+    run(rt, reader, &mut input, &mut out, &fixed, question);
+    input
 }

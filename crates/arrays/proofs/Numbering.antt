@@ -9,7 +9,7 @@ use native.Mathlib.Decide.{dec_lt}
 use native.Mathlib.Numerals.{add-one}
 use lib.Dec.{ltb}
 use lib.ListN.{length, get_or, set, take, drop, length-set, length-take, drop_of_length-le}
-use lib.Seq.{take-suc-set, drop-cons, get_or-take, length-take-le, take-nil}
+use lib.Seq.{take-suc-set, drop-cons, length-take-le, take-nil}
 use borrow.Author.Tests.{lt-ltb, le-ltb}
 use Rattle.grammar.specs.Code.Tokens.{max_parts}
 use Rattle.grammar.specs.Code.Codes.{first_leaf}
@@ -116,27 +116,25 @@ length_places_with p c places = go (ltb c first_leaf) (ltb p 64)
 pub standing_begin : (l kinds places : List ℕ) → length kinds ≡ max_parts → length places ≡ 64 → Standing l kinds places 0 0
 standing_begin l kinds places h k = record { room = omega arith; long = h; short = k; kinds_left = refl; places_left = refl }
 
-pub standing_turn : (codes kinds places kinds' places' : List ℕ) (n i p p' : ℕ) → i < n → n ≤ max_parts → n ≤ length codes → Standing (take n codes) kinds places i p
-    → Noted (get_or codes i 0) i p kinds places kinds' places' p' → Standing (take n codes) kinds' places' (i + 1) p'
-standing_turn codes kinds places kinds' places' n i p p' h k m s w =
-    let e : get_or (take n codes) i 0 ≡ get_or codes i 0 = get_or-take n codes i 0 h in
-    let b : i < length (take n codes) = omega (arith, length-take-le n codes m) in
-    rw (w.kind, w.place, w.leaves, ← e)
+pub standing_turn : (l kinds places kinds' places' : List ℕ) (i p p' : ℕ) → i < length l → length l ≤ max_parts → Standing l kinds places i p
+    → Noted (get_or l i 0) i p kinds places kinds' places' p' → Standing l kinds' places' (i + 1) p'
+standing_turn l kinds places kinds' places' i p p' h k s w =
+    rw (w.kind, w.place, w.leaves)
     (record {
-      room = (bounds p (get_or (take n codes) i 0) []).room s.room;
+      room = (bounds p (get_or l i 0) []).room s.room;
       long = length-set kinds i _ ∙ s.long;
-      short = length_places_with p (get_or (take n codes) i 0) places ∙ s.short;
-      kinds_left = kinds_turn kinds (take n codes) i p (omega (arith, s.long)) b ∙ s.kinds_left;
-      places_left = places_turn places (take n codes) i p s.room s.short b ∙ s.places_left;
+      short = length_places_with p (get_or l i 0) places ∙ s.short;
+      kinds_left = kinds_turn kinds l i p (omega (arith, s.long)) h ∙ s.kinds_left;
+      places_left = places_turn places l i p s.room s.short h ∙ s.places_left;
     })
 
-pub standing_end : (codes kinds places : List ℕ) (n p : ℕ) → Standing (take n codes) kinds places n p → Numbered (take n codes) (take n kinds) places p
+pub standing_end : (l kinds places : List ℕ) (p : ℕ) → Standing l kinds places (length l) p → Numbered l (take (length l) kinds) places p
 unfolding kinds_from places_of
-standing_end codes kinds places n p s =
-    let e : drop n (take n codes) ≡ [] = drop_of_length-le (take n codes) {i = n} (omega (arith, length-take n codes)) in
-    let a : take p places ≡ take 64 (places_of (take n codes)) = sym (append-nil (take p places)) ∙ (rw (e, take-nil {A = ℕ} (64 - p)) at s.places_left) in
+standing_end l kinds places p s =
+    let e : drop (length l) l ≡ [] = drop_of_length-le l {i = length l} (omega arith) in
+    let a : take p places ≡ take 64 (places_of l) = sym (append-nil (take p places)) ∙ (rw (e, take-nil {A = ℕ} (64 - p)) at s.places_left) in
     record {
-      are = sym (append-nil (take n kinds)) ∙ (rw e at s.kinds_left);
+      are = sym (append-nil (take (length l) kinds)) ∙ (rw e at s.kinds_left);
       at = a;
-      counted = sym (length-take-le p places (omega (arith, s.short, s.room))) ∙ ap length a ∙ length-take 64 (places_of (take n codes));
+      counted = sym (length-take-le p places (omega (arith, s.short, s.room))) ∙ ap length a ∙ length-take 64 (places_of l);
     }

@@ -25,12 +25,6 @@ pub left_before : (sizes : List ℕ) (i : ℕ) → 0 < i → Small sizes i → g
 left_before sizes zero h s = absurd (omega arith)
 left_before sizes (suc m) h s = let e : suc m - 1 ≡ m = omega arith in rw e (left_small sizes m s)
 
-pub left_some : (sizes : List ℕ) (m a : ℕ) → a ≡ get_or sizes m 0 → a ≤ m → get_or sizes (m - a) 0 ≡ left_size sizes m
-left_some sizes m a e h = rw (← e, le-leb a m h)
-
-pub left_none : (sizes : List ℕ) (m a : ℕ) → a ≡ get_or sizes m 0 → m < a → 0 ≡ left_size sizes m
-left_none sizes m a e h = rw (← e, lt-leb a m h)
-
 pub size_before : (kind : ℕ) (sizes : List ℕ) (i b : ℕ) → 0 < i → b ≡ left_size sizes (i - 1) → size_of kind (get_or sizes (i - 1) 0) b ≡ size_at kind sizes i
 size_before kind sizes zero b h e = absurd (omega arith)
 size_before kind sizes (suc m) b h e = let d : suc m - 1 ≡ m = omega arith in rw (e, d)

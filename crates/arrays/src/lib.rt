@@ -9,14 +9,19 @@ ghost use Rattle.arrays.specs.Decoded.{blank};
 ghost use Rattle.arrays.specs.Passes.{Noted, Numbered, Small, left_size, size_of, size_at, Sized, Places, Marked, MarkedTo, Masked, Turn};
 ghost use Rattle.arrays.specs.Finished.{Finished};
 
-// The reader's codes, and the kinds and sizes of the parts: one for each place.
-pub type Codes = [u16; Pattern::MAX_PARTS];
+// The reader's codes: those of the first `len` places. A code is a number and no enum, since the grammar's definition of tokens, `token_of`, reads it as one.
+#[derive(Drop)]
+pub struct Codes {
+    pub items: [u16; Pattern::MAX_PARTS],
+    pub len: usize,
+}
 
+// The kinds and sizes of the parts: one for each place.
 pub type Kinds = [u8; Pattern::MAX_PARTS];
 
 pub type Sizes = [u16; Pattern::MAX_PARTS];
 
-// Post-order: a part's last place has its kind and its size, its parts stand before it.
+// Post-order: a part's last place has its kind and its size, its parts stand before it. Kinds and sizes are two arrays, as the definition `decode` reads them.
 #[derive(Drop)]
 pub struct Pattern {
     // the kind of the part that ends here: one of the kinds below, or FIRST_LEAF + p for the leaf p
@@ -42,7 +47,7 @@ impl Pattern {
     // The most parts of a pattern within the limits.
     pub const MAX_PARTS: usize = 2815;
 
-    // The kinds of parts: the empty sequence, a sequence of two parts, an alternation of two, a star, a lazy star, the fields 1 to 8, and then the leaves.
+    // The kinds of parts, as bytes and no enum, since the 64 leaves are kinds as well: the empty sequence, a sequence of two parts, an alternation of two, a star, a lazy star, the fields 1 to 8, and then the leaves.
     pub const EMPTY: u8 = 0;
 
     pub const SEQUENCE: u8 = 1;
@@ -59,7 +64,7 @@ impl Pattern {
 
     pub const LAST_LEAF: u8 = Pattern::FIRST_LEAF + 63;
 
-    // No parts and no leaves.
+    // No parts and no leaves. No crate here calls it; it stays for those who do.
     pub fn empty() -> Pattern
         ensures blank { result ≡ blank }
     {
@@ -86,37 +91,40 @@ fn leaf_kind(p: usize) -> u8
     Pattern::FIRST_LEAF + p as u8
 }
 
-// The first pass, at the code c of the place i: its kind, and the place in the text of a leaf. p leaves stand before it; a 65th is not kept.
-fn note(c: u16, i: usize, p: usize, kinds: &mut Kinds, places: &mut [u16; 64]) -> usize
-    requires { (i < max_parts) × (p ≤ 64) }
-    ensures { Noted c i p kinds.old places.old kinds.new places.new result }
+// The leaves that are numbered: the text of leaf p begins at places[p].
+#[derive(Drop)]
+struct Leaves {
+    places: [u16; 64],
+    len: usize,
+}
+
+// The first pass, at the code c of the place i: its kind, and the place in the text of a leaf. A 65th leaf is not kept.
+fn note(c: u16, i: usize, kinds: &mut Kinds, leaves: &mut Leaves)
+    requires { (i < max_parts) × (leaves.old.len ≤ 64) }
+    ensures { Noted c i leaves.old.len kinds.old leaves.old.places kinds.new leaves.new.places leaves.new.len }
 {
     if c < LEAF_CODE {
         kinds[i] = c as u8;
-        return p;
+        return;
     }
+    let p = leaves.len;
     if p < words::LEAVES {
         kinds[i] = leaf_kind(p);
-        places[p] = c - LEAF_CODE;
-        return p + 1;
+        leaves.places[p] = c - LEAF_CODE;
+        leaves.len = p + 1;
+        return;
     }
     kinds[i] = Pattern::EMPTY;
-    p
 }
 
-// The kinds of the first n codes, the places of their leaves, and how many leaves there are.
-fn number_leaves(codes: &Codes, n: usize, kinds: &mut Kinds, places: &mut [u16; 64]) -> usize
-    requires { (n ≤ max_parts) × (n ≤ length codes.now) × (length kinds.old ≡ max_parts) × (length places.old ≡ 64) }
-    ensures { Numbered (take n codes.now) (take n kinds.new) places.new result }
+// The kinds of the codes, and the places of their leaves, where none is numbered yet.
+fn number_leaves(codes: &[u16], kinds: &mut Kinds, leaves: &mut Leaves)
+    requires { (length codes.now ≤ max_parts) × (length kinds.old ≡ max_parts) × (length leaves.old.places ≡ 64) × (leaves.old.len ≡ 0) }
+    ensures { Numbered codes.now (take (length codes.now) kinds.new) leaves.new.places leaves.new.len }
 {
-    let mut p = 0;
-    let mut i = 0;
-    while i < n {
-        let c = codes[i];
-        p = note(c, i, p, kinds, places);
-        i += 1;
+    for (i, c) in codes.iter().enumerate() {
+        note(*c, i, kinds, leaves);
     }
-    p
 }
 
 // The size of the left one of two parts: it ends before the right one, which ends at the place m.
@@ -124,7 +132,7 @@ fn left_size(m: usize, sizes: &Sizes) -> u16
     requires { m < max_parts }
     ensures { result ≡ left_size sizes.now m }
 {
-    let a = words::wide_u16(sizes[m]);
+    let a = words::wide(sizes[m]);
     if a <= m {
         return sizes[m - a];
     }
@@ -161,39 +169,35 @@ fn size_at(kind: u8, i: usize, sizes: &Sizes) -> u16
     size_of(kind, sizes[m], left_size(m, sizes))
 }
 
-// The size of the part that ends at each of the first n places.
-fn fill_sizes(kinds: &Kinds, n: usize, sizes: &mut Sizes)
-    requires { (n ≤ max_parts) × (length sizes.old ≡ max_parts) }
-    ensures { Sized kinds.now n sizes.new }
+// The size of the part that ends at each place.
+fn fill_sizes(kinds: &[u8], sizes: &mut Sizes)
+    requires { (length kinds.now ≤ max_parts) × (length sizes.old ≡ max_parts) }
+    ensures { Sized kinds.now (length kinds.now) sizes.new }
 {
-    let mut i = 0;
-    while i < n {
-        let size = size_at(kinds[i], i, sizes);
+    for (i, kind) in kinds.iter().enumerate() {
+        let size = size_at(*kind, i, sizes);
         sizes[i] = size;
-        i += 1;
     }
 }
 
-// The leaves below n whose text begins at q: they have one set.
-fn leaves_at(places: &[u16; 64], n: usize, q: u16) -> u64
-    requires { n ≤ 64 }
-    ensures { Places places.now n q result }
+// The leaves whose text begins at q: they have one set. That there are at most 64 is asked of each slice of places: it has no struct that could say it.
+fn leaves_at(places: &[u16], q: u16) -> u64
+    requires { length places.now ≤ 64 }
+    ensures { Places places.now (length places.now) q result }
 {
     let mut x = 0u64;
-    let mut p = 0;
-    while p < n {
-        x = words::with_if(places[p] == q, x, p);
-        p += 1;
+    for (p, at) in places.iter().enumerate() {
+        x = words::with_if(*at == q, x, p);
     }
     x
 }
 
+// The table and the text are two parameters throughout, as `finish` and `scanner::leaf_holds` take them.
 // The mask x of the byte b, with the leaves m if the set of the leaf at q holds it. The named sets are those of the table that is loaded.
-fn mark(loaded: &[u8], s: &[u8], q: usize, m: u64, b: usize, x: u64) -> u64
-    requires { b < 256 }
+fn mark(loaded: &[u8], s: &[u8], q: usize, m: u64, b: u8, x: u64) -> u64
     ensures { Marked loaded.now s.now q m b x result }
 {
-    if scanner::leaf_holds(loaded, s, q, b as u8) {
+    if scanner::leaf_holds(loaded, s, q, b) {
         return words::union(x, m);
     }
     x
@@ -204,11 +208,8 @@ fn mark_all(loaded: &[u8], s: &[u8], q: usize, m: u64, masks: &mut [u64; 256])
     requires { length masks.old ≡ 256 }
     ensures { MarkedTo loaded.now s.now q m 256 masks.old masks.new }
 {
-    let mut b = 0;
-    while b < 256 {
-        let x = mark(loaded, s, q, m, b, masks[b]);
-        masks[b] = x;
-        b += 1;
+    for (b, x) in masks.iter_mut().enumerate() {
+        *x = mark(loaded, s, q, m, b as u8, *x);
     }
 }
 
@@ -216,63 +217,55 @@ fn mark_all(loaded: &[u8], s: &[u8], q: usize, m: u64, masks: &mut [u64; 256])
 fn mark_leaf(
     loaded: &[u8],
     s: &[u8],
-    places: &[u16; 64],
-    n: usize,
+    places: &[u16],
     done: u64,
     p: usize,
     masks: &mut [u64; 256],
 ) -> u64
-    requires { (n ≤ 64) × (p < n) × (length masks.old ≡ 256) }
-    ensures { Turn loaded.now s.now places.now n done p masks.old masks.new result }
+    requires { (length places.now ≤ 64) × (p < length places.now) × (length masks.old ≡ 256) }
+    ensures { Turn loaded.now s.now places.now (length places.now) done p masks.old masks.new result }
 {
     if words::has(done, p) {
         return done;
     }
     let q = places[p];
-    let m = leaves_at(places, n, q);
-    mark_all(loaded, s, words::wide_u16(q), m, masks);
+    let m = leaves_at(places, q);
+    mark_all(loaded, s, words::wide(q), m, masks);
     words::union(done, m)
 }
 
-// The masks of the first n leaves.
-fn masks_of(loaded: &[u8], s: &[u8], places: &[u16; 64], n: usize) -> [u64; 256]
-    requires { n ≤ 64 }
-    ensures { Masked loaded.now s.now places.now (λ p. ltb p n) result }
+// The masks of the leaves.
+fn masks_of(loaded: &[u8], s: &[u8], places: &[u16]) -> [u64; 256]
+    requires { length places.now ≤ 64 }
+    ensures { Masked loaded.now s.now places.now (λ p. ltb p (length places.now)) result }
 {
     let mut masks = [0u64; 256];
     let mut done = 0u64;
-    let mut p = 0;
-    while p < n {
-        done = mark_leaf(loaded, s, places, n, done, p, &mut masks);
-        p += 1;
+    for p in 0..places.len() {
+        done = mark_leaf(loaded, s, places, done, p, &mut masks);
     }
     masks
 }
 
-// How many codes there are: no more than the array has.
-fn within(codes: &Codes, len: usize) -> usize
-    ensures { (result ≤ max_parts) × (result ≡ min len (length codes.now)) }
+// The pattern of the codes for the text s, by the table of named sets that is loaded: its leaves are numbered from 0, left to right.
+pub fn finish(loaded: &[u8], s: &[u8], codes: &Codes) -> Pattern
+    ensures finished { Finished loaded.now s.now (take codes.now.len codes.now.items) result }
 {
-    let all = &codes[..];
-    if len < all.len() { len } else { all.len() }
-}
-
-// The pattern whose codes for the text s are the first len ones, by the table of named sets that is loaded: its leaves are numbered from 0, left to right.
-pub fn finish(loaded: &[u8], s: &[u8], codes: &Codes, len: usize) -> Pattern
-    ensures finished { Finished loaded.now s.now (take len codes.now) result }
-{
-    let n = within(codes, len);
+    let n = codes.len.min(Pattern::MAX_PARTS);
     let mut kinds = [0u8; Pattern::MAX_PARTS];
     let mut sizes = [0u16; Pattern::MAX_PARTS];
-    let mut places = [0u16; 64];
-    let leaves = number_leaves(codes, n, &mut kinds, &mut places);
-    fill_sizes(&kinds, n, &mut sizes);
-    let masks = masks_of(loaded, s, &places, leaves);
+    let mut leaves = Leaves {
+        places: [0u16; 64],
+        len: 0,
+    };
+    number_leaves(&codes.items[..n], &mut kinds, &mut leaves);
+    fill_sizes(&kinds[..n], &mut sizes);
+    let masks = masks_of(loaded, s, &leaves.places[..leaves.len]);
     Pattern {
         kinds,
         sizes,
         len: n,
         masks,
-        leaves,
+        leaves: leaves.len,
     }
 }

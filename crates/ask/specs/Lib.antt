@@ -1,3 +1,2 @@
--- What is prepared for order lines, and the line of a table of named sets.
-pub mod Orders
+-- The line of a table of named sets.
 pub mod Table

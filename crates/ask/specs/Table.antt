@@ -2,9 +2,10 @@
 -- Assumes nothing.
 use Rattle.std.specs.Prelude.{ℕ, List, [], ◌∷◌, ◌++◌}
 use Rattle.grammar.specs.Loaded.{Passes, Fails}
-use Rattle.printing.specs.Text.{hex, Appended, RefusedLine, Printed}
+use Rattle.printing.specs.declared.Output.{Output}
+use Rattle.printing.specs.Text.{hex, Adds, RefusedLine, Prints}
 
--- The output, which held `old`, holds `new` then, m bytes of it in use.
-pub data TableLine (loaded old new : List ℕ) (m : ℕ) : Type 0 where
-  usable : Passes loaded → Appended old 0 (hex loaded ++ (10 ∷ [])) new m → TableLine loaded old new m
-  faulty : {q : ℕ} → Fails loaded q → Printed 50 (RefusedLine 14 q) old 0 new m → TableLine loaded old new m
+-- What is added to the output.
+pub data TableLine (loaded : List ℕ) (o o' : Output) : Type 0 where
+  usable : Passes loaded → Adds o (hex loaded ++ (10 ∷ [])) o' → TableLine loaded o o'
+  faulty : {q : ℕ} → Fails loaded q → Prints 50 (RefusedLine 14 q) o o' → TableLine loaded o o'

@@ -12,242 +12,87 @@
 // A failed read or write ends the program with a line on standard error.
 #![tactic(auto)]
 
-ghost use Rattle.std.specs.Prelude.{◌≡◌, take, drop};
-ghost use Rattle.matchers.specs.Tables.{tables};
-ghost use Rattle.fields.specs.Cuts.{lent};
-ghost use Rattle.ask.specs.Orders.{PreparedAs};
+ghost use Rattle.std.specs.Prelude.{◌≡◌};
 ghost use Rattle.ask.specs.Table.{TableLine};
 
-use answers::Asked;
-use lines::{KEPT, SIZE, State};
+use answers::{Details, Groups, Looking};
+use lines::Input;
+use printing::Output;
 use queries::{Loading, Query};
-use reader::Answer;
-use sets::Checked;
+use reader::refusal::Fault;
 use std::io::Read;
 
-// Prepares the pattern after the first `skip` bytes of the line, for its fields or for both spans.
-fn prepare(
-    loaded: &[u8],
-    line: &[u8; KEPT],
-    first: State,
-    skip: usize,
-    brackets: bool,
-    masks: &mut [u64; 256],
-    rows: &mut [u8; 4225],
-    lens: &mut [u8; 65],
-    sets: &mut [u64; 65],
-    ends: &mut [u8; 65],
-    next: &mut [u64; 257],
-    hows: &mut [u8; 10],
-    marks: &mut [u16; 4225],
-) -> fields::Prepared
-    ensures { PreparedAs brackets loaded.now (drop skip (take first.n line.now))
-        (lent (tables masks.old rows.old lens.old sets.old ends.old next.old hows.old) marks.old) result
-        (lent (tables masks.new rows.new lens.new sets.new ends.new next.new hows.new) marks.new) }
-{
-    if brackets {
-        return orders::prepare_fields(
-            loaded, line, first, skip, masks, rows, lens, sets, ends, next, hows, marks,
-        );
-    }
-    let answer = orders::prepare(
-        loaded, line, first, skip, masks, rows, lens, sets, ends, next, hows,
-    );
-    fields::Prepared { answer, count: 0 }
-}
-
-// Prepares the pattern after the word, and prints its refusal or answers the order lines. Nothing waits then.
-fn serve_orders<P: Print, R: Read>(
-    rt: &P,
-    input: &mut R,
-    loaded: &[u8],
-    chunk: &mut [u8; SIZE],
-    line: &mut [u8; KEPT],
-    out: &mut [u8; SIZE],
-    skip: usize,
-    brackets: bool,
-    first: State,
-) -> State
-    ensures { result.used ≡ 0 }
-{
-    let mut masks = [0u64; 256];
-    let mut rows = [0u8; 4225];
-    let mut lens = [0u8; 65];
-    let mut sets = [0u64; 65];
-    let mut ends = [0u8; 65];
-    let mut next = [0u64; 257];
-    let mut hows = [0u8; 10];
-    let mut marks = [0u16; 4225];
-    let ready = prepare(
-        loaded, line, first, skip, brackets, &mut masks, &mut rows, &mut lens, &mut sets,
-        &mut ends, &mut next, &mut hows, &mut marks,
-    );
-    let answer = ready.answer;
-    let count = ready.count;
-    let Answer::Refused { number, place } = answer else {
-        return orders::run(
-            rt, input, chunk, line, out, brackets, count, &masks, &rows, &lens, &sets, &ends,
-            &next, &hows, &marks, first,
-        );
-    };
-    let mut s = first;
-    s.used = printing::refused(out, 0, number, place);
-    lines::write_out(rt, out, s)
-}
-
-// Answers what is asked for the patterns on the lines after the first. Nothing waits then.
-fn serve_patterns<P: Print, R: Read>(
-    rt: &P,
-    input: &mut R,
-    loaded: &[u8],
-    chunk: &mut [u8; SIZE],
-    line: &mut [u8; KEPT],
-    out: &mut [u8; SIZE],
-    asked: Asked,
-    first: State,
-) -> State
-    ensures { result.used ≡ 0 }
-{
-    let mut table = [0u8; answers::TABLE];
-    let mut witness = [0u8; answers::WITNESS];
-    let mut area = [0u8; answers::AREA];
-    answers::run(
-        rt,
-        input,
-        loaded,
-        chunk,
-        line,
-        out,
-        &mut table,
-        &mut witness,
-        &mut area,
-        asked,
-        first,
-    )
-}
-
 // Nothing is known by that word.
-fn unknown<P: Print>(rt: &P, out: &mut [u8; SIZE], first: State) -> State
-    ensures { result.used ≡ 0 }
+fn unknown<P: Print>(rt: &P, input: &mut Input, out: &mut Output)
+    ensures { out.new.used ≡ 0 }
 {
-    let mut s = first;
-    s.used = printing::text(out, 0, b"unknown");
-    lines::write_out(rt, out, s)
+    out.text(b"unknown");
+    input.write_out(rt, out);
 }
 
-// Puts the table at the start of the output, or the refusal of one that fails.
-fn table_line(loaded: &[u8], out: &mut [u8; SIZE]) -> usize
-    ensures { TableLine loaded.now out.old out.new result }
+// Appends the table, or the refusal of one that fails.
+fn table_line(loaded: &[u8], out: &mut Output)
+    ensures { TableLine loaded.now out.old out.new }
 {
-    let check = sets::check(loaded);
-    let Checked::Faulty { place } = check else {
-        return printing::bytes(out, 0, loaded);
-    };
-    printing::refused(out, 0, 14, place)
+    match sets::check(loaded) {
+        Ok(()) => out.bytes(loaded),
+        Err(faulty) => out.refused(Fault::FaultySets.number(), faulty.place),
+    }
 }
 
 // Prints the table, or its refusal. Nothing waits then.
-fn serve_table<P: Print>(rt: &P, loaded: &[u8], out: &mut [u8; SIZE], first: State) -> State
-    ensures { result.used ≡ 0 }
+fn serve_table<P: Print>(rt: &P, input: &mut Input, out: &mut Output, loaded: &[u8])
+    ensures { out.new.used ≡ 0 }
 {
-    let mut s = first;
-    s.used = table_line(loaded, out);
-    lines::write_out(rt, out, s)
+    table_line(loaded, out);
+    input.write_out(rt, out);
 }
 
-// Answers what is asked by the word at a place of the first line, with the table that is loaded.
+// Answers what is asked by the word at a place of the first line, with the table that is loaded. Nothing waits then.
 fn serve_query<P: Print, R: Read>(
     rt: &P,
-    input: &mut R,
+    reader: &mut R,
+    input: &mut Input,
+    out: &mut Output,
     loaded: &[u8],
-    chunk: &mut [u8; SIZE],
-    line: &mut [u8; KEPT],
-    out: &mut [u8; SIZE],
     at: usize,
-    first: State,
-) -> State
-    ensures { result.used ≡ 0 }
+)
+    ensures { out.new.used ≡ 0 }
 {
-    let query = queries::query_at(lines::first_of(line, first.n), at);
-    match query {
-        Query::Spans { at } => serve_orders(rt, input, loaded, chunk, line, out, at, false, first),
-        Query::Fields { at } => serve_orders(rt, input, loaded, chunk, line, out, at, true, first),
-        Query::Groups => serve_patterns(rt, input, loaded, chunk, line, out, Asked::Groups, first),
-        Query::Looking => serve_patterns(
-            rt,
-            input,
-            loaded,
-            chunk,
-            line,
-            out,
-            Asked::Looking,
-            first,
-        ),
-        Query::Details => serve_patterns(
-            rt,
-            input,
-            loaded,
-            chunk,
-            line,
-            out,
-            Asked::Details,
-            first,
-        ),
-        Query::Table => serve_table(rt, loaded, out, first),
-        Query::Unknown => unknown(rt, out, first),
+    match queries::query_at(input.line.held(), at) {
+        Query::Spans { at } => {
+            let prepared = orders::prepare(loaded, input, at);
+            orders::serve(rt, reader, input, out, prepared);
+        }
+        Query::Fields { at } => {
+            let prepared = orders::prepare_fields(loaded, input, at);
+            orders::serve(rt, reader, input, out, prepared);
+        }
+        Query::Groups => answers::run(rt, reader, input, out, loaded, Groups),
+        Query::Looking => answers::run(rt, reader, input, out, loaded, Looking),
+        Query::Details => answers::run(rt, reader, input, out, loaded, Details),
+        Query::Table => serve_table(rt, input, out, loaded),
+        Query::Unknown => unknown(rt, input, out),
     }
 }
 
-// The first n entries of a table.
-fn first_entries(table: &[u8; queries::ENTRIES], n: usize) -> &[u8]
-    ensures { result.now ≡ take n table.now }
+// With the table of named sets that the first line begins with, or the fixed one. Nothing waits then.
+fn serve<P: Print, R: Read>(rt: &P, reader: &mut R, input: &mut Input, out: &mut Output)
+    ensures { out.new.used ≡ 0 }
 {
-    lines::first_of(table, n)
-}
-
-// With the table of named sets that the first line begins with, or the fixed one.
-fn serve<P: Print, R: Read>(
-    rt: &P,
-    input: &mut R,
-    chunk: &mut [u8; SIZE],
-    line: &mut [u8; KEPT],
-    out: &mut [u8; SIZE],
-    first: State,
-) -> State
-    ensures { result.used ≡ 0 }
-{
-    let mut table = [0u8; queries::ENTRIES];
-    let loading = queries::load(lines::first_of(line, first.n), &mut table);
-    match loading {
-        Loading::Fixed => {
-            let fixed = sets::fixed();
-            serve_query(rt, input, &fixed, chunk, line, out, 0, first)
-        }
-        Loading::Own { entries, at } => {
-            serve_query(
-                rt,
-                input,
-                first_entries(&table, entries),
-                chunk,
-                line,
-                out,
-                at,
-                first,
-            )
-        }
-        Loading::Broken => unknown(rt, out, first),
+    match queries::load(input.line.held()) {
+        Loading::Fixed => serve_query(rt, reader, input, out, &sets::fixed(), 0),
+        Loading::Own { table, at } => serve_query(rt, reader, input, out, table.as_slice(), at),
+        Loading::Broken => unknown(rt, input, out),
     }
 }
 
 fn main(rt: HostRuntime) {
-    let mut input = rt.stdin();
-    let mut chunk = [0u8; SIZE];
-    let mut line = [0u8; KEPT];
-    let mut out = [0u8; SIZE];
-    let mut s = lines::first_line(&rt, &mut input, &mut chunk, &mut line, &out);
-    if s.whole {
-        s = serve(&rt, &mut input, &mut chunk, &mut line, &mut out, s);
+    let mut reader = rt.stdin();
+    let mut out = Output::new();
+    let mut input = lines::first_line(&rt, &mut reader, &mut out);
+    if input.line.whole {
+        serve(&rt, &mut reader, &mut input, &mut out);
     }
-    let source = s.source;
-    lines::tell(&rt, &mut out, source);
+    input.tell(&rt);
 }

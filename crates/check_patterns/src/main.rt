@@ -3,31 +3,8 @@
 // the program with a line on standard error.
 #![tactic(auto)]
 
-use answers::Asked;
-use lines::{KEPT, SIZE};
+use answers::Verdicts;
 
 fn main(rt: HostRuntime) {
-    let mut input = rt.stdin();
-    let mut chunk = [0u8; SIZE];
-    let mut line = [0u8; KEPT];
-    let mut out = [0u8; SIZE];
-    let mut table = [0u8; answers::TABLE];
-    let mut witness = [0u8; answers::WITNESS];
-    let mut area = [0u8; answers::AREA];
-    let fixed = sets::fixed();
-    let s = answers::run(
-        &rt,
-        &mut input,
-        &fixed,
-        &mut chunk,
-        &mut line,
-        &mut out,
-        &mut table,
-        &mut witness,
-        &mut area,
-        Asked::Verdict,
-        lines::start(),
-    );
-    let source = s.source;
-    lines::tell(&rt, &mut out, source);
+    answers::serve(&rt, &mut rt.stdin(), Verdicts).tell(&rt);
 }

@@ -5,6 +5,7 @@ use mathlib.Core.Logic.{inl, inr}
 use Prim.Native.Nat.{ℕ, ◌-◌, ◌≤◌, ◌<◌, min}
 use mathlib.Core.List.{List}
 use native.Mathlib.Omega.{arith}
+use Rattle.std.proofs.Common.{Result, Ok, Err}
 use native.Mathlib.Nat.{min-eq_left}
 use lib.ListN.{length}
 use Rattle.theory.specs.Pattern.{Re, count, Numbered}
@@ -26,26 +27,27 @@ use Rattle.verdict.proofs.Tabled.{tabled_exactly}
 use Rattle.arrays.specs.declared.Pattern.{Pattern}
 use Rattle.arrays.specs.Decoded.{decode}
 use Rattle.follow.specs.declared.Tables.{Tables}
+use Rattle.follow.specs.declared.TablesView.{TablesView}
 use Rattle.follow.specs.Rows.{Right}
-use Rattle.reader.specs.declared.Answer.TheVariants.{Accepted}
-use Rattle.reader.specs.declared.Answer.TheVariants as Answer
+use Rattle.follow.specs.Views.{shown}
+use Rattle.reader.specs.declared.refusal.Refusal.{Refusal}
+use Rattle.reader.specs.declared.refusal.Fault.TheVariants.{NoSlot, AreaTooShort}
 use Rattle.reader.specs.declared.Reading.{Reading}
 use Rattle.reader.specs.Reading.{ReadRight}
 use Rattle.reader.proofs.Laws.{accepted_reads, accepted_leaves, accepted_holds, refused_fault}
-use Rattle.standing.specs.Stands.{Arrays, arrays, Lent}
+use Rattle.standing.specs.Stands.{Arrays, arrays, arrays_of, Lent}
 use Rattle.standing.proofs.Lent.{lent}
 use Rattle.search.specs.declared.Progress.{Progress}
 use Rattle.search.specs.declared.Progress.TheVariants.{Clear, Witness, Full}
 use Rattle.search.specs.declared.Course.{Course}
 use Rattle.search.specs.Ends.{AllFound, WitnessFound, SlotsFull, Reached, Searched}
-use Rattle.search.specs.declared.Looking.{Looking}
 use Rattle.pairs.specs.Tested.{Ran}
 use Rattle.checker.specs.declared.Verdict.{Verdict}
-use Rattle.checker.specs.declared.Verdict.TheVariants.{Alike, Refused}
+use Rattle.checker.specs.declared.Verdict.TheVariants.{Alike}
 use Rattle.checker.specs.Origins.{Line, Lined}
 use Rattle.checker.specs.declared.Report.{Report}
 use Rattle.checker.specs.Verdicts.{result_of}
-use Rattle.checker.specs.Looking.{no_looking, LooksFor, unread, unsearched, Reports}
+use Rattle.checker.specs.Looking.{without_look, LooksFor, unread, unsearched, Reports}
 use Rattle.checker.specs.Steps.{Sound, Handed, given, too_long, Recorded, Known, Decides}
 use Rattle.checker.proofs.Origins.{line_one, record_line}
 
@@ -78,7 +80,7 @@ module _ {loaded p : List ℕ} {a : Alternation} (reads : Accepts loaded p a) (d
   found_full x = no_slot reads x.full x.size refl x.holds.table refl
 
   -- A witness: unlike, or 11.
-  pub found_witness : {n : ℕ} {y : Verdict} {v' : List ℕ} → WitnessFound (write_out loaded a) t n t' → Handed (form_of (write_out loaded a)).bytes t' n v y v' → Found loaded p t v (result_of y) t' v'
+  pub found_witness : {n : ℕ} {y : Result Verdict Refusal} {v' : List ℕ} → WitnessFound (write_out loaded a) t n t' → Handed (form_of (write_out loaded a)).bytes t' n v y v' → Found loaded p t v (result_of y) t' v'
   found_witness {n} x (given {w = w} l h) =
       let e : w ≡ x.line = line_one l (last_line d most x) in
       first_witness reads (first d most x) (few d most x) (subst (λ u. length u ≤ length v) e h) (ap₂ unlike (sym x.size) (ap length e)) x.holds.table (ap (onto v) e)
@@ -91,56 +93,55 @@ module _ {a : Arrays} {m : ℕ} {t : List ℕ} {c : Course} {t' : List ℕ} (sea
   ends : {r : Re} → Lent r a → m ≡ (form_of r).bytes → (q : Progress) → c.progress ≡ q → Reached r t t' (λ n. AllFound r t n t') q
   ends {r} lent width q e = subst (Reached r t t' (λ n. AllFound r t n t')) e (searched.ends lent width)
 
-  pub recorded_alike : {n : ℕ} {v : List ℕ} → c.progress ≡ Clear n → Recorded a m t v (record { verdict = Alike n; looking = c.looking }) t' v
+  pub recorded_alike : {n : ℕ} {v : List ℕ} → c.progress ≡ Clear n → Recorded a m t v (record { verdict = Ok (Alike n); looking = c.looking }) t' v
   recorded_alike {n} e = record { found = λ reads lent width. found_alike reads lent.numbered lent.most (ends lent width (Clear n) e); looks = λ lent width. searched.looking lent width }
 
-  pub recorded_full : {v : List ℕ} → c.progress ≡ Full → Recorded a m t v (record { verdict = Refused 10 0; looking = c.looking }) t' v
+  pub recorded_full : {v : List ℕ} → c.progress ≡ Full → Recorded a m t v (record { verdict = Err (record { fault = NoSlot; place = 0 }); looking = c.looking }) t' v
   recorded_full e = record { found = λ reads lent width. found_full reads lent.numbered lent.most (ends lent width Full e); looks = λ lent width. searched.looking lent width }
 
   pub recorded_lined : {n : ℕ} → Known a m → c.progress ≡ Witness n → (0 < n) × Lined m t' (n - 1)
   recorded_lined {n} (r, lent, width) e = subst (λ z. (0 < n) × Lined z t' (n - 1)) (sym width) (last_lined lent.numbered lent.most (ends lent width (Witness n) e))
 
-  pub recorded_witness : {n : ℕ} {y : Verdict} {v v' : List ℕ} → c.progress ≡ Witness n → Handed m t' n v y v' → Recorded a m t v (record { verdict = y; looking = c.looking }) t' v'
+  pub recorded_witness : {n : ℕ} {y : Result Verdict Refusal} {v v' : List ℕ} → c.progress ≡ Witness n → Handed m t' n v y v' → Recorded a m t v (record { verdict = y; looking = c.looking }) t' v'
   recorded_witness {n} {y} {v} {v'} e h = record {
     found = λ reads lent width. found_witness reads lent.numbered lent.most (ends lent width (Witness n) e) (subst (λ z. Handed z t' n v y v') width h);
     looks = λ lent width. searched.looking lent width;
   }
 
 -- The area is too short.
-pub decides_short : {x : Pattern} {t v s s' : List ℕ} {y : Looking} → y ≡ no_looking → (length s < area_bytes) × (s' ≡ s) → Decides x t v s (record { verdict = Refused 13 0; looking = y }) t v s'
-decides_short {t = t} {v = v} {s = s} e (l, k) =
-    record { reports = λ {loaded} {p} reads f. record { checks = subst (Checked loaded p t v s (whole (refused 13 0) t v)) (sym k) (by_area reads l); looks = subst (LooksFor loaded p t s) (sym e) (unsearched reads (inl l)) } }
+pub decides_short : {x : Pattern} {t v s s' : List ℕ} {y : Report} → y ≡ without_look (Err (record { fault = AreaTooShort; place = 0 })) → (length s < area_bytes) × (s' ≡ s) → Decides x t v s y t v s'
+decides_short {x} {t} {v} {s} {s'} e (l, k) = subst (λ y. Decides x t v s y t v s') (sym e)
+    (record { reports = λ {loaded} {p} reads f. record { checks = subst (Checked loaded p t v s (whole (refused 13 0) t v)) (sym k) (by_area reads l); looks = unsearched reads (inl l) } })
 
--- Of an accepted pattern's arrays.
-module _ {x : Pattern} {tables : Tables} (sound : Sound x) (right : Right (decode x) tables) where
-  abbrev lent_arrays : Arrays
-  lent_arrays = arrays x.masks tables.rows tables.lens tables.sets tables.ends
-
-  lent_here : Lent (decode x) lent_arrays
-  lent_here = lent x tables right sound.numbered sound.most sound.holds
+-- Of an accepted pattern's arrays, and the view of its tables.
+module _ {x : Pattern} {tables : Tables} (sound : Sound x) (right : Right (decode x) tables) (view : TablesView) (masks : view.masks.now ≡ x.masks) (same : shown view ≡ tables) where
+  lent_here : Lent (decode x) (arrays_of view)
+  lent_here =
+      let is : arrays x.masks tables.rows tables.lens tables.sets tables.ends ≡ arrays_of view = ap₂ (λ m t. arrays m t.rows t.lens t.sets t.ends) (sym masks) (sym same) in
+      subst (Lent (decode x)) is (lent x tables right sound.numbered sound.most sound.holds)
 
   -- The test passes,
-  pub decides_passes : {t v s s' : List ℕ} {y : Looking} → y ≡ no_looking → Ran x.masks tables.sets tables.ends s s' NoneExtends → Decides x t v s (record { verdict = Alike 0; looking = y }) t v s'
-  decides_passes {t} {v} {s} e ran = record {
+  pub decides_passes : {t v s s' : List ℕ} {y : Report} → y ≡ without_look (Ok (Alike 0)) → Ran view.masks.now view.sets.now view.ends.now s s' NoneExtends → Decides x t v s y t v s'
+  decides_passes {t} {v} {s} {s'} e ran = subst (λ y. Decides x t v s y t v s') (sym e) (record {
     reports = λ {loaded} {p} reads f.
         let none = subst NoneExtends f (ran.says lent_here) in
-        record { checks = subst (Checked loaded p t v s (whole (alike 0) t v)) (sym ran.area) (by_test reads ran.room none); looks = subst (LooksFor loaded p t s) (sym e) (unsearched reads (inr none)) };
-  }
+        record { checks = subst (Checked loaded p t v s (whole (alike 0) t v)) (sym ran.area) (by_test reads ran.room none); looks = unsearched reads (inr none) };
+  })
 
   module _ {m : ℕ} (width : m ≡ (narrow (min x.leaves 64)).bytes) where
     -- The width is that of the pattern's records.
     width_right : m ≡ (form_of (decode x)).bytes
     width_right = width ∙ ap (λ n. (narrow n).bytes) (ap (λ n. min n 64) sound.holds.leaves ∙ min-eq_left sound.most)
 
-    pub decides_known : Known lent_arrays m
+    pub decides_known : Known (arrays_of view) m
     decides_known = (decode x, lent_here, width_right)
 
     -- or it fails, and the records say what they say.
-    pub decides_fails : {t v s s' : List ℕ} {y : Report} {t' v' : List ℕ} → Ran x.masks tables.sets tables.ends s s' (λ r. NoneExtends r → ⊥) → Recorded lent_arrays m t v y t' v' → Decides x t v s y t' v' s'
+    pub decides_fails : {t v s s' : List ℕ} {y : Report} {t' v' : List ℕ} → Ran view.masks.now view.sets.now view.ends.now s s' (λ r. NoneExtends r → ⊥) → Recorded (arrays_of view) m t v y t' v' → Decides x t v s y t' v' s'
     decides_fails {t} {v} {s} {y = y} {t' = t'} {v' = v'} ran rec = record {
       reports = λ {loaded} {p} {a} reads f.
           let fails = subst (λ r. NoneExtends r → ⊥) f (ran.says lent_here) in
-          let here = subst (λ r. Lent r lent_arrays) f lent_here in
+          let here = subst (λ r. Lent r (arrays_of view)) f lent_here in
           let wide = subst (λ r. m ≡ (form_of r).bytes) f width_right in
           record {
             checks = subst (Checked loaded p t v s (whole (result_of y.verdict) t' v')) (sym ran.area)
@@ -150,12 +151,12 @@ module _ {x : Pattern} {tables : Tables} (sound : Sound x) (right : Right (decod
     }
 
 -- Of the reader's answer.
-module _ {loaded p : List ℕ} {r : Reading} (h : ReadRight loaded p r) where
-  pub accepted_sound : r.answer ≡ Accepted → Sound r.pattern
-  accepted_sound e = record { numbered = (accepted_leaves h e).0; most = (accepted_leaves h e).1; holds = accepted_holds h e }
+module _ {loaded p : List ℕ} where
+  pub accepted_sound : {x : Reading} → ReadRight loaded p (Ok x) → Sound x.pattern
+  accepted_sound h = record { numbered = (accepted_leaves h).0; most = (accepted_leaves h).1; holds = accepted_holds h }
 
-  pub reports_accepted : {t v s t' v' s' : List ℕ} (y : Report) → r.answer ≡ Accepted → Decides r.pattern t v s y t' v' s' → Reports loaded p t v s y t' v' s'
-  reports_accepted y e d = let (a, reads, f) = accepted_reads h e in d.reports reads f
+  pub reports_accepted : {x : Reading} {t v s t' v' s' : List ℕ} (y : Report) → ReadRight loaded p (Ok x) → Decides x.pattern t v s y t' v' s' → Reports loaded p t v s y t' v' s'
+  reports_accepted y h d = let (a, reads, f) = accepted_reads h in d.reports reads f
 
-  pub reports_refused : {t v s : List ℕ} {n k : ℕ} {y : Looking} → y ≡ no_looking → r.answer ≡ Answer.Refused n k → Reports loaded p t v s (record { verdict = Refused n k; looking = y }) t v s
-  reports_refused {t} {v} {s} e f = record { checks = by_fault (refused_fault h f); looks = subst (LooksFor loaded p t s) (sym e) (unread (refused_fault h f)) }
+  pub reports_refused : {e : Refusal} {t v s : List ℕ} {y : Report} → y ≡ without_look (Err e) → ReadRight loaded p (Err e) → Reports loaded p t v s y t v s
+  reports_refused {t = t} {v} {s} f h = subst (λ y. Reports loaded p t v s y t v s) (sym f) (record { checks = by_fault (refused_fault h); looks = unread (refused_fault h) })

@@ -5,6 +5,7 @@ use Prim.Native.Nat.{ℕ, ◌*◌, ◌≤◌, ◌<◌}
 use mathlib.Core.Logic.{◌⊎◌, inl, inr}
 use mathlib.Core.List.{List, []}
 use native.Mathlib.Omega.{arith}
+use Rattle.std.proofs.Common.{Ok}
 use native.Mathlib.Nat.{mul-le-mul, min-eq_left, zero-mul}
 use lib.ListN.{length}
 use Rattle.theory.specs.Pattern.{Re}
@@ -64,7 +65,7 @@ not_saturated f r n m h =
     min-eq_left (omega arith)
 
 -- ALIKE: as many looks as records times groups, and so none where there are no records.
-pub check_looks : {loaded p t v s t' v' s' : List ℕ} {x : Report} {n : ℕ} (a : Alternation) → Accepts loaded p a → Reports loaded p t v s x t' v' s' → x.verdict ≡ AlikeVerdict n
+pub check_looks : {loaded p t v s t' v' s' : List ℕ} {x : Report} {n : ℕ} (a : Alternation) → Accepts loaded p a → Reports loaded p t v s x t' v' s' → x.verdict ≡ Ok (AlikeVerdict n)
     → x.looking.looks ≡ n * (groups_of (write_out loaded a)).count
 check_looks {loaded} {p} {t} {v} {s} {t'} {v'} {s'} {x} {n} a reads r e = go r.looks
   where

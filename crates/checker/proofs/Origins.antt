@@ -24,7 +24,9 @@ use Rattle.search.specs.Ends.{HoldsRecords}
 use Rattle.search.proofs.Looks.{all_inside}
 use Rattle.checker.specs.Origins.{Line, empty, Lined, Length, Fits, Written}
 use Rattle.checker.specs.Origins.{grown as comes}
-use Rattle.checker.specs.declared.Verdict.TheVariants.{Unlike, Refused}
+use Rattle.std.proofs.Common.{Ok, Err}
+use Rattle.reader.specs.declared.refusal.Fault.TheVariants.{WitnessTooLong}
+use Rattle.checker.specs.declared.Verdict.TheVariants.{Unlike}
 use Rattle.checker.specs.Steps.{Handed, given, too_long}
 
 -- A record has one line.
@@ -183,10 +185,10 @@ write_end {m} {t} {k₀} {k} {i} {v₀} z x w y =
     x.written ∙ ap₂ (sets v₀) first all ∙ sym (onto_sets v₀ w (omega (arith, x.room, ap length all)))
 
 -- Handed over, or too long for the buffer.
-pub handed_given : {m : ℕ} {t : List ℕ} {n k : ℕ} {v v' : List ℕ} → Lined m t (n - 1) → Length m t (n - 1) k → k ≤ length v → Written m t (n - 1) v v' → Handed m t n v (Unlike n k) v'
+pub handed_given : {m : ℕ} {t : List ℕ} {n k : ℕ} {v v' : List ℕ} → Lined m t (n - 1) → Length m t (n - 1) k → k ≤ length v → Written m t (n - 1) v v' → Handed m t n v (Ok (Unlike n k)) v'
 handed_given {m} {t} {n} {k} {v} {v'} (w, x) size room written =
     let e = size w x in
-    subst (Handed m t n v (Unlike n k)) (sym (written w x)) (subst (λ z. Handed m t n v (Unlike n z) (onto v w)) (sym e) (given x (omega arith)))
+    subst (Handed m t n v (Ok (Unlike n k))) (sym (written w x)) (subst (λ z. Handed m t n v (Ok (Unlike n z)) (onto v w)) (sym e) (given x (omega arith)))
 
-pub handed_short : {m : ℕ} {t : List ℕ} {n k : ℕ} {v : List ℕ} → Lined m t (n - 1) → Length m t (n - 1) k → length v < k → Handed m t n v (Refused 11 0) v
+pub handed_short : {m : ℕ} {t : List ℕ} {n k : ℕ} {v : List ℕ} → Lined m t (n - 1) → Length m t (n - 1) k → length v < k → Handed m t n v (Err (record { fault = WitnessTooLong; place = 0 })) v
 handed_short (w, x) size short = let e = size w x in too_long x (omega arith)

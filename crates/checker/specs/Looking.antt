@@ -1,6 +1,6 @@
 -- How much looking a check takes (request 4 of paper 02).
 -- Assumes nothing.
-use Rattle.std.specs.Prelude.{◌⊎◌, ℕ, ◌≤◌, ◌<◌, List, length}
+use Rattle.std.specs.Prelude.{◌⊎◌, ℕ, ◌≤◌, ◌<◌, List, length, Result}
 use Rattle.extends.specs.Extends.{NoneExtends}
 use Rattle.grammar.specs.Grammar.{Alternation}
 use Rattle.grammar.specs.Loaded.{Accepts, Refuses}
@@ -9,13 +9,15 @@ use Rattle.verdict.specs.Record.{form_of}
 use Rattle.verdict.specs.Table.{slots}
 use Rattle.verdict.specs.Area.{area_bytes}
 use Rattle.search.specs.declared.Looking.{Looking}
-use Rattle.search.specs.Looking.{Takes}
+use Rattle.search.specs.Looking.{no_looking, Takes}
+use Rattle.reader.specs.declared.refusal.Refusal.{Refusal}
+use Rattle.checker.specs.declared.Verdict.{Verdict}
 use Rattle.checker.specs.declared.Report.{Report}
 use Rattle.checker.specs.Verdicts.{Checks}
 
--- There is no look.
-abbrev pub no_looking : Looking
-no_looking = record { looks = 0; comparisons = 0 }
+-- What is said without a look through the records.
+abbrev pub without_look : Result Verdict Refusal → Report
+without_look x = record { verdict = x; looking = no_looking }
 
 -- For the pattern p with the named sets that are loaded, the table t and the area s. "A refused pattern goes no further than the reader", and no record is looked for where
 -- the area is too short or the test passes. Else it is what the search takes with the table's slots.

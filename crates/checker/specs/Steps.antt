@@ -1,6 +1,6 @@
 -- What the checker's private functions need and hand on.
 -- Assumes nothing.
-use Rattle.std.specs.Prelude.{◌≡◌, ℕ, ◌-◌, ◌≤◌, ◌<◌, List, length}
+use Rattle.std.specs.Prelude.{◌≡◌, ℕ, ◌-◌, ◌≤◌, ◌<◌, List, length, Result, Ok, Err}
 use Rattle.theory.specs.Pattern.{Re, count, Numbered}
 use Rattle.grammar.specs.Grammar.{Alternation}
 use Rattle.grammar.specs.Loaded.{Accepts}
@@ -18,7 +18,9 @@ use Rattle.checker.specs.Verdicts.{result_of}
 use Rattle.checker.specs.Looking.{Reports}
 use Rattle.checker.specs.declared.Verdict.{Verdict}
 use Rattle.checker.specs.declared.Report.{Report}
-use Rattle.checker.specs.declared.Verdict.TheVariants.{Unlike, Refused}
+use Rattle.checker.specs.declared.Verdict.TheVariants.{Unlike}
+use Rattle.reader.specs.declared.refusal.Refusal.{Refusal}
+use Rattle.reader.specs.declared.refusal.Fault.TheVariants.{WitnessTooLong}
 
 -- The arrays are those of a pattern with at most 64 leaves, numbered from 0.
 pub record Sound (x : Pattern) : Type 0 where
@@ -27,9 +29,9 @@ pub record Sound (x : Pattern) : Type 0 where
   pub holds : HoldsPattern x (decode x)
 
 -- The last of the n records in the table t, of m bytes each, is the witness's: its line w goes to the buffer v, if it is not longer.
-pub data Handed (m : ℕ) (t : List ℕ) (n : ℕ) (v : List ℕ) : Verdict → List ℕ → Type 0 where
-  given : {w : List ℕ} → Line m t (n - 1) w → length w ≤ length v → Handed m t n v (Unlike n (length w)) (onto v w)
-  too_long : {w : List ℕ} → Line m t (n - 1) w → length v < length w → Handed m t n v (Refused 11 0) v
+pub data Handed (m : ℕ) (t : List ℕ) (n : ℕ) (v : List ℕ) : Result Verdict Refusal → List ℕ → Type 0 where
+  given : {w : List ℕ} → Line m t (n - 1) w → length w ≤ length v → Handed m t n v (Ok (Unlike n (length w))) (onto v w)
+  too_long : {w : List ℕ} → Line m t (n - 1) w → length v < length w → Handed m t n v (Err (record { fault = WitnessTooLong; place = 0 })) v
 
 -- What the records say, where the arrays of a pattern are lent and its records have m bytes.
 pub record Recorded (a : Arrays) (m : ℕ) (t v : List ℕ) (y : Report) (t' v' : List ℕ) : Type 0 where

@@ -20,9 +20,10 @@ use Rattle.standing.specs.declared.Standing.{Standing}
 use Rattle.standing.specs.Stands.{means, Arrays, Lent, Fine, Stands, First, Carried}
 use Rattle.seeking.specs.Places.{Passed}
 use Rattle.facts.specs.Moves.{Bytes}
-use Rattle.ends.specs.declared.End.{End}
-use Rattle.ends.specs.Ends.{place_of, SameIf, Ended}
-use Rattle.ends.proofs.Runs.{same_means, next_alike}
+use Rattle.std.specs.Prelude as Code
+use Rattle.std.specs.Bool as Tests
+use Rattle.ends.specs.Ends.{place_of, Ended}
+use Rattle.ends.proofs.Runs.{next_alike}
 
 module _ (r : Re) (f : Theory.Standing → Bool) (w : List ℕ) where
   forward_start : (i : ℕ) (s : Theory.Standing) (o : Option ℕ) → s ≡ standing r [] → o ≡ cond (f s) (some i) none → forward r f (drop i w) s i o ≡ farthest r f (drop i w) i
@@ -43,7 +44,7 @@ pub record Ahead (r : Re) (w : List ℕ) (start i : ℕ) (s : Standing) (last : 
   pub read : (v : List ℕ) × (means (count r) s ≡ standing r v)
   pub whole : forward r (λ s. s.first) (drop i w) (means (count r) s) i last ≡ farthest r (λ s. s.first) (drop start w) start
 
-pub record Aheads (a : Arrays) (w : List ℕ) (start i : ℕ) (s : Standing) (last : End) : Type 0 where
+pub record Aheads (a : Arrays) (w : List ℕ) (start i : ℕ) (s : Standing) (last : Code.Option ℕ) : Type 0 where
   pub here : {r : Re} → Lent r a → Bytes w → Ahead r w start i s (place_of last)
 
 module _ (r : Re) (w : List ℕ) (start : ℕ) (d : Numbered 0 r) where
@@ -71,8 +72,13 @@ module _ (r : Re) (w : List ℕ) (start : ℕ) (d : Numbered 0 r) where
       later true i o = refl
       later false i o = refl
 
+-- The start itself, if (b) holds there.
+pub first_place : (c : Bool) (i : ℕ) → place_of (Tests.then_some c i) ≡ cond c (some i) none
+first_place true i = refl
+first_place false i = refl
+
 module _ {a : Arrays} {w : List ℕ} {start : ℕ} where
-  pub ahead_start : {s : Standing} {last : End} → First a s → place_of last ≡ cond s.first (some start) none → Aheads a w start start s last
+  pub ahead_start : {s : Standing} {last : Code.Option ℕ} → First a s → place_of last ≡ cond s.first (some start) none → Aheads a w start start s last
   ahead_start {s} {last} first g = record {
     here = λ {r} lent bytes.
         let x = first.stands lent in
@@ -80,7 +86,7 @@ module _ {a : Arrays} {w : List ℕ} {start : ℕ} where
   }
 
   -- From i to j, where the byte at i carries s to t, and any byte after it that is passed over keeps t.
-  module _ {i j : ℕ} {is : Bool} {s t : Standing} {last : End} (l : i < length w) (same : SameIf is s t)
+  module _ {i j : ℕ} {is : Bool} {s t : Standing} {last : Code.Option ℕ} (l : i < length w) (same : is ≡ true → s ≡ t)
       (passed : Passed is a.masks w s.all (bit_and s.all (get_or a.masks (get_or w i 0) 0)) (i + 1) j) (inv : Aheads a w start i s last) (carried : Carried a s (get_or w i 0) t) where
     turned : (r : Re) → Lent r a → Bytes w → Ahead r w start j t (cond t.first (some j) (place_of last))
     turned r lent bytes = subst (λ k. Ahead r w start k t (cond t.first (some k) (place_of last))) e there
@@ -100,7 +106,7 @@ module _ {a : Arrays} {w : List ℕ} {start : ℕ} where
         keeps : (k : ℕ) → suc i ≤ k → k < suc i + (j - suc i) → means (count r) t ≡ next r (means (count r) t) (get_or w k 0)
         keeps k h l =
             let (yes-same, alike) = passed.alike k (omega arith) (omega arith) in
-            let still = same_means (count r) s t (same yes-same) in
+            let still = ap (means (count r)) (same yes-same) in
             let (v, line) = before.read in
             after.is ∙ sym (next_alike lent w bytes s before.fine v line i k alike) ∙ ap (λ u. next r u (get_or w k 0)) still
 
@@ -109,14 +115,14 @@ module _ {a : Arrays} {w : List ℕ} {start : ℕ} where
             ahead_kept r w start lent.numbered (j - suc i) (suc i) t (place_of last) (omega (arith, within)) keeps
             (ahead_byte r w start lent.numbered i s t (place_of last) l before after.fine after.is)
 
-    pub ahead_turn : {last' : End} → place_of last' ≡ cond t.first (some j) (place_of last) → Aheads a w start j t last'
+    pub ahead_turn : {last' : Code.Option ℕ} → place_of last' ≡ cond t.first (some j) (place_of last) → Aheads a w start j t last'
     ahead_turn g = record { here = λ {r} lent bytes. rw g (turned r lent bytes) }
 
-  pub ahead_end : {i : ℕ} {s : Standing} {last : End} → length w ≤ i → Aheads a w start i s last → Ended a w start last
+  pub ahead_end : {i : ℕ} {s : Standing} {last : Code.Option ℕ} → length w ≤ i → Aheads a w start i s last → Ended a w start last
   ahead_end {i} {s} {last} l inv = record { last = λ {r} lent bytes. sym (forward_end r (λ s. s.first) w i (means (count r) s) (place_of last) l) ∙ (inv.here lent bytes).whole }
 
   -- Where no leaf of (a) is wanted any more, nothing is left to do.
-  pub ahead_over : {i : ℕ} {s : Standing} {last : End} → s.n ≡ 0 → Aheads a w start i s last → Ended a w start last
+  pub ahead_over : {i : ℕ} {s : Standing} {last : Code.Option ℕ} → s.n ≡ 0 → Aheads a w start i s last → Ended a w start last
   ahead_over {i} {s} {last} over inv = record {
     last = λ {r} lent bytes. sym (greedy_stop r lent.numbered (drop i w) (means (count r) s) i (place_of last) (ap (λ n. take n s.list) over)) ∙ (inv.here lent bytes).whole;
   }

@@ -22,7 +22,7 @@ use Rattle.facts.proofs.Rows.{carried_leaves}
 use Rattle.blocks.specs.Answer.{or_else, last_end}
 use Rattle.blocks.proofs.Answer.{no_leaves}
 use Rattle.blocks.proofs.Opening.{last_next, last_over}
-use Rattle.ends.specs.declared.End.{End}
+use Rattle.std.specs.Prelude as Code
 use Rattle.ends.specs.Ends.{place_of, Last}
 
 -- An end found on the way comes after what was found before.
@@ -57,15 +57,15 @@ module _ (r : Re) (w : List ℕ) where
       (last_kept d (suc i) l c p (omega arith) (λ k a b. keeps k (omega arith) (omega arith)))
 
 -- What is left to do at the place i is the whole.
-pub record Lasting (masks sets w : List ℕ) (ending origin x : ℕ) (found : End) (i set : ℕ) (last : End) : Type 0 where
+pub record Lasting (masks sets w : List ℕ) (ending origin x : ℕ) (found : Code.Option ℕ) (i set : ℕ) (last : Code.Option ℕ) : Type 0 where
   pub whole : {r : Re} → Moves r masks sets ending → Bytes w
       → or_else (last_end r (leaves_in (count r) x) (drop origin w) origin) (place_of found) ≡ or_else (last_end r (leaves_in (count r) set) (drop i w) i) (place_of last)
 
-module _ {masks sets w : List ℕ} {ending origin x : ℕ} {found : End} where
+module _ {masks sets w : List ℕ} {ending origin x : ℕ} {found : Code.Option ℕ} where
   pub lasting_begin : Lasting masks sets w ending origin x found origin x found
   lasting_begin = record { whole = λ moves bytes. refl }
 
-  pub lasting_turn : {i j set to : ℕ} {last last' : End} → i < length w → Lasting masks sets w ending origin x found i set last → Wants sets (bit_and set (get_or masks (get_or w i 0) 0)) to
+  pub lasting_turn : {i j set to : ℕ} {last last' : Code.Option ℕ} → i < length w → Lasting masks sets w ending origin x found i set last → Wants sets (bit_and set (get_or masks (get_or w i 0) 0)) to
       → Passed (eqb set to) masks w set (bit_and set (get_or masks (get_or w i 0) 0)) (i + 1) j
       → place_of last' ≡ cond (not (eqb (bit_and (bit_and set (get_or masks (get_or w i 0) 0)) ending) 0)) (some j) (place_of last) → Lasting masks sets w ending origin x found j to last'
   lasting_turn {i} {j} {set} {to} {last} {last'} l before wants passed is = record { whole = λ {r} moves bytes. before.whole moves bytes ∙ turned r moves bytes }
@@ -100,10 +100,10 @@ module _ {masks sets w : List ℕ} {ending origin x : ℕ} {found : End} where
               let at-to : Takes r (get_or w k 0) (leaves_in (count r) to) took to ending = subst (λ y. Takes r (get_or w k 0) (leaves_in (count r) y) took to ending) same (rw kind at there) in
               (sym (carried_leaves at-to), sym at-to.ends)
 
-  pub lasting_end : {i set : ℕ} {last : End} → length w ≤ i → Lasting masks sets w ending origin x found i set last → Last masks sets w ending origin x found last
+  pub lasting_end : {i set : ℕ} {last : Code.Option ℕ} → length w ≤ i → Lasting masks sets w ending origin x found i set last → Last masks sets w ending origin x found last
   lasting_end {i} {set} {last} l before = record { last = λ {r} moves bytes. sym (before.whole moves bytes ∙ ap (λ o. or_else o (place_of last)) (last_over r w i (leaves_in (count r) set) l)) }
 
-  pub lasting_over : {i set : ℕ} {last : End} → set ≡ 0 → Lasting masks sets w ending origin x found i set last → Last masks sets w ending origin x found last
+  pub lasting_over : {i set : ℕ} {last : Code.Option ℕ} → set ≡ 0 → Lasting masks sets w ending origin x found i set last → Last masks sets w ending origin x found last
   lasting_over {i} {set} {last} z before = record {
     last = λ {r} moves bytes. sym (before.whole moves bytes ∙ ap (λ o. or_else o (place_of last)) (ap (λ l. last_end r l (drop i w) i) (none_in set (from 0 (count r)) z) ∙ no_leaves r (drop i w) i));
   }

@@ -1,13 +1,12 @@
 -- Runs of bytes that keep a standing: which bytes are alike to it, and that it is the same after each of them.
 -- Assumes nothing.
-use mathlib.Core.Path.{◌≡◌, refl, sym, ap, ◌∙◌, subst}
-use mathlib.Core.Bool.{Bool, true, false, not, ◌&&◌, beq, true≢false}
+use mathlib.Core.Path.{◌≡◌, sym, ap, ◌∙◌, subst}
+use mathlib.Core.Bool.{true, ◌&&◌, true≢false}
 use mathlib.Core.List.{List, [], ◌∷◌}
-use Prim.Native.Nat.{ℕ, ◌≤◌, ◌<◌}
+use Prim.Native.Nat.{ℕ, ◌<◌}
 use native.Mathlib.Omega.{arith}
 use native.Mathlib.Decide.{dec_lt}
-use lib.ListN.{length, get_or, take}
-use lib.Seq.{ext_get_or, get_or-take, length-take-le}
+use lib.ListN.{get_or}
 use lib.Dec.{T, eqb}
 use lib.Bits.{bit_and}
 use Rattle.theory.specs.Pattern.{Re, count, has, Numbered}
@@ -25,7 +24,6 @@ use Rattle.standing.specs.declared.Standing.{Standing}
 use Rattle.standing.specs.Stands.{means, Arrays, Lent, Fine}
 use Rattle.facts.specs.Moves.{Bytes}
 use Rattle.blocks.proofs.Opening.{afters_same}
-use Rattle.ends.specs.Ends.{Same}
 
 -- (a) is within (c), for the standing of a line.
 fronts_wanted : {K : Type 0} (l : List (Outcome K)) → Within (fronts l) (wanted l)
@@ -48,23 +46,6 @@ module _ (r : Re) (b c : ℕ) where
       let o = afters_same r b c s.order g in
       let a = afters_same r b c s.all h in
       λ i. record { order = once (fronts (o i)); first = has_end (o i); all = set_of r (wanted (a i)); some = has_end (a i) }
-
--- The same standing, by the code's tests and by the definition.
-pub same_flag : (a b : Bool) → not (beq a b) ≡ false → a ≡ b
-same_flag true true e = refl
-same_flag true false e = absurd (true≢false e)
-same_flag false true e = absurd (true≢false e)
-same_flag false false e = refl
-
-pub same_leaves : (n : ℕ) (a b : List ℕ) → length a ≡ 64 → length b ≡ 64 → (n ≤ 64) × ((k : ℕ) → k < n → get_or a k 0 ≡ get_or b k 0) → take n a ≡ take n b
-same_leaves n a b la lb h =
-    let (small, same) = h in
-    let na : length (take n a) ≡ n = length-take-le n a (omega arith) in
-    let nb : length (take n b) ≡ n = length-take-le n b (omega arith) in
-    ext_get_or 0 (take n a) (take n b) (na ∙ sym nb) λ k l. let m : k < n = omega arith in get_or-take n a k 0 m ∙ same k m ∙ sym (get_or-take n b k 0 m)
-
-pub same_means : (c : ℕ) (s t : Standing) → Same s t → means c s ≡ means c t
-same_means c s t e = λ i. record { order = e.leaves i; first = e.first i; all = filter (has_bit (e.all i)) (from 0 c); some = e.some i }
 
 module _ {r : Re} {a : Arrays} (lent : Lent r a) (w : List ℕ) (bytes : Bytes w) (s : Standing) (fine : Fine r s) where
   -- A leaf of (c) takes two bytes of one kind, or neither.

@@ -2,10 +2,12 @@
 // the bytes that begin or end a match are looked for.
 #![tactic(auto)]
 
-ghost use Rattle.std.specs.Prelude.{◌≡◌};
+ghost use Rattle.std.specs.Prelude.{◌≡◌, ◌≤◌};
+ghost use Rattle.seeking.specs.Hows.{Finds};
 ghost use Rattle.facts.specs.Sets.{Wants, Endings, Nexts};
-ghost use Rattle.facts.specs.Known.{facts, how_at, Known};
+ghost use Rattle.facts.specs.Known.{facts, facts_in, how_at, ending_in, Known};
 
+use follow::TablesView;
 use seeking::How;
 
 // The leaves after which an end stands have the last place of `next`.
@@ -13,92 +15,141 @@ pub const ENDING: usize = 256;
 
 #[derive(Drop)]
 pub struct Facts {
-    // for each byte what the first leaves want after it; then the leaves after which an end stands
+    // for each byte what the first leaves want after it; then the leaves after which an end stands: one array, since C keeps it
     pub next: [u64; 257],
-    // how the bytes that begin a match are looked for, and how those that end one
+    // how the bytes that begin a match are looked for, and how those that end one: five bytes each, since C keeps them
     pub hows: [u8; 10],
 }
 
+// The facts, lent.
+#[derive(Clone, Copy)]
+pub struct FactsView<'a> {
+    pub next: &'a [u64; 257],
+    pub hows: &'a [u8; 10],
+}
+
+impl Facts {
+    // Nothing is copied.
+    pub fn view<'a>(&'a self) -> FactsView<'a>
+        ensures lent { facts_in result ≡ facts self.now.next self.now.hows }
+    {
+        FactsView {
+            next: &self.next,
+            hows: &self.hows,
+        }
+    }
+}
+
+impl FactsView<'_> {
+    // How the bytes that begin a match are looked for.
+    pub fn begins(self) -> How
+        ensures begins { result ≡ how_at self.entry.hows.now 0 }
+    {
+        how_at(self.hows, 0)
+    }
+
+    // How the bytes that end one are looked for.
+    pub fn closes(self) -> How
+        ensures closes { result ≡ how_at self.entry.hows.now 5 }
+    {
+        how_at(self.hows, 5)
+    }
+
+    // The leaves after which an end stands.
+    pub fn ending(self) -> u64
+        ensures ending { result ≡ ending_in (facts_in self.entry) }
+    {
+        self.next[ENDING]
+    }
+}
+
+// What five bytes from the place `at` on say of how bytes are looked for: the way's number, 1 or 2, and the bytes.
+fn how_at(hows: &[u8; 10], at: usize) -> How
+    requires { at ≤ 5 }
+    ensures { result ≡ how_at hows.now at }
+{
+    match hows[at] {
+        1 => How::One(hows[at + 1]),
+        2 => How::Few {
+            low: hows[at + 1],
+            high: hows[at + 2],
+            other: hows[at + 3],
+            last: hows[at + 4],
+        },
+        _ => How::Any,
+    }
+}
+
+// The five bytes that say it. Where no byte is looked for, one is named all the same: what a caller in C has kept stays as it is.
+fn bytes_of(how: How, idle: u8) -> [u8; 5]
+    ensures { how_at result 0 ≡ how }
+{
+    match how {
+        How::Any => [0, idle, idle, idle, idle],
+        How::One(b) => [1, b, b, b, b],
+        How::Few {
+            low,
+            high,
+            other,
+            last,
+        } => [2, low, high, other, last],
+    }
+}
+
+// How the bytes that the set takes are best looked for, in five bytes.
+fn best_for(set: u64, masks: &[u64; 256]) -> [u8; 5]
+    ensures { Finds masks.now set (how_at result 0) }
+{
+    let first = masks.iter().position(|mask| set & *mask != 0);
+    bytes_of(seeking::how_of(set, masks), first.map_or(0, |b| b as u8))
+}
+
 // What the leaves that took a byte want next.
-pub fn carried<'a>(took: u64, sets: &'a [u64; 65]) -> u64
+pub fn carried(took: u64, sets: &[u64; 65]) -> u64
     ensures wants { Wants sets.now took result }
 {
-    let mut x = 0u64;
+    let mut x = 0;
     let mut rest = took;
-    while rest != 0 {
-        let t = words::take_least(rest);
-        let p = t.leaf;
-        x = words::union(x, sets[p + 1]);
+    while let Some(t) = words::take_least(rest) {
+        x = words::union(x, sets[t.leaf + 1]);
         rest = t.rest;
     }
     x
 }
 
 // The leaves whose row has the end.
-pub fn ending_leaves<'a>(ends: &'a [u8; 65]) -> u64
+pub fn ending_leaves(ends: &[u8; 65]) -> u64
     ensures endings { Endings ends.now result }
 {
-    let mut x = 0u64;
-    let mut p = 0;
-    while p < 64 {
-        x = words::with_if(ends[p + 1] == 1, x, p);
-        p += 1;
+    let mut x = 0;
+    for (p, end) in ends[1..].iter().enumerate() {
+        x = words::with_if(*end == 1, x, p);
     }
     x
 }
 
-// What the first leaves want after each byte.
-fn next_sets<'a>(masks: &'a [u64; 256], sets: &'a [u64; 65]) -> [u64; 257]
+// What the first leaves want after each byte. The last place is left at 0. Two of the tables alone, as the definition `Nexts` takes them.
+fn next_sets(masks: &[u64; 256], sets: &[u64; 65]) -> [u64; 257]
     ensures { Nexts masks.now sets.now result }
 {
-    let mut next = [0u64; 257];
-    let mut b = 0;
-    while b < 256 {
-        next[b] = carried(sets[0] & masks[b], sets);
-        b += 1;
+    let mut next = [0; 257];
+    for (b, mask) in masks.iter().enumerate() {
+        next[b] = carried(sets[0] & *mask, sets);
     }
     next
 }
 
 // The facts of the pattern whose tables are lent.
-pub fn facts_of<'a>(masks: &'a [u64; 256], sets: &'a [u64; 65], ends: &'a [u8; 65]) -> Facts
-    ensures known { Known masks.now sets.now ends.now (facts result.next result.hows) }
+pub fn facts_of(tables: TablesView) -> Facts
+    ensures known { Known tables.entry.masks.now tables.entry.sets.now tables.entry.ends.now (facts result.next result.hows) }
 {
-    let ending = ending_leaves(ends);
-    let mut next = next_sets(masks, sets);
+    let ending = ending_leaves(tables.ends);
+    let mut next = next_sets(tables.masks, tables.sets);
     next[ENDING] = ending;
-    let b = seeking::how_of(sets[0], masks);
-    let e = seeking::how_of(ending, masks);
+    let b = best_for(tables.sets[0], tables.masks);
+    let e = best_for(ending, tables.masks);
     Facts {
         next,
-        hows: [
-            b.way, b.low, b.high, b.other, b.last, e.way, e.low, e.high, e.other, e.last,
-        ],
-    }
-}
-
-// How the bytes that begin a match are looked for.
-pub fn begins(hows: &[u8; 10]) -> How
-    ensures begins { result ≡ how_at hows.now 0 }
-{
-    How {
-        way: hows[0],
-        low: hows[1],
-        high: hows[2],
-        other: hows[3],
-        last: hows[4],
-    }
-}
-
-// How the bytes that end one are looked for.
-pub fn closes(hows: &[u8; 10]) -> How
-    ensures closes { result ≡ how_at hows.now 5 }
-{
-    How {
-        way: hows[5],
-        low: hows[6],
-        high: hows[7],
-        other: hows[8],
-        last: hows[9],
+        hows: [b[0], b[1], b[2], b[3], b[4], e[0], e[1], e[2], e[3], e[4]],
     }
 }

@@ -14,6 +14,8 @@ use Rattle.grammar.proofs.Loaded.{one_answer}
 use Rattle.traces.specs.Fields.{absent, between, field_at}
 use Rattle.traces.specs.Nest.{Told, never, last, Around}
 use Rattle.traces.proofs.Fields.{greedy_way, field_told, field_absent, inner_turn}
+use Rattle.std.specs.Prelude.{Result}
+use Rattle.reader.specs.declared.refusal.Refusal.{Refusal}
 use Rattle.fields.specs.declared.Reply.{Reply}
 use Rattle.fields.specs.Answer.{due}
 use Rattle.fields.specs.Cuts.{says, Replied}
@@ -21,7 +23,7 @@ use Rattle.fields.specs.Inner.{Inner}
 use Rattle.fields.proofs.Written.{write_out_apart, write_out_without, write_out_under}
 
 -- THE REPLY IS THE ONE OF THE DEFINITIONS: one equation, for every table of named sets, every pattern and every line.
-pub reply_is : {loaded p w : List ℕ} {r : Reply} → Replied loaded p w r → (d : Due.Answer) → Answers loaded p d → says r.answer r.count r.cut ≡ due loaded d w
+pub reply_is : {loaded p w : List ℕ} {r : Result Reply Refusal} → Replied loaded p w r → (d : Due.Answer) → Answers loaded p d → says r ≡ due loaded d w
 reply_is {loaded} {p} {w} h d k = h.is ∙ ap (λ a. due loaded a w) (one_answer loaded p h.answer d h.right k)
 
 module _ (loaded : List ℕ) (t : Alternation) (w : List ℕ) (i k : ℕ) (e : greedy (write_out loaded t) w ≡ span i k) where

@@ -7,7 +7,7 @@ use mathlib.Core.List.{List, [], ◌∷◌, ◌++◌, append_assoc, append-nil, 
 use native.Mathlib.Omega.{arith}
 use native.Mathlib.Numerals.{add-one}
 use lib.ListN.{length, get_or, take}
-use lib.Seq.{take-suc, take_all, length-take-le, get_or-take}
+use lib.Seq.{take-suc, take_all}
 use lib.Dec.{T, eqb, eqb_refl}
 use lib.Bits.{bit_or}
 use Rattle.theory.specs.Standing.{member, gather, once}
@@ -18,19 +18,18 @@ use Rattle.traces.specs.Traces.{Carried}
 use Rattle.traces.specs.Code.Pass.{Sets, items}
 use Rattle.traces.specs.Code.Sets.{join, joined}
 use Rattle.traces.specs.Code.Marks.{Shows, sets_of}
-use Rattle.follow.specs.Outcomes.{Whole, listed, Good, Lists}
-use Rattle.follow.specs.Parts.{Added, Joined}
+use Rattle.follow.specs.declared.outcomes.Outcomes.{Outcomes}
+use Rattle.follow.specs.Outcomes.{listed, Lists, Added, Joined}
 use Rattle.follow.proofs.Masks.{shows_join}
 use Rattle.follow.proofs.Items.{items_append, items_joined, once_append, sets_append, sets_joined, outcome, outcome_item, outcome_sets, outcomes, outcomes_items, outcomes_sets}
 use Rattle.follow.proofs.Lists.{member_is}
 
 -- A list that goes on by k is one that goes on by m, if k and m have the same outcomes with the same fields.
-again : {x : Whole} (l k m : List (Carried Sets)) → once (items k) ≡ once (items m) → ((q : ℕ) → T (member q (items k)) → sets_of q k ≡ sets_of q m) → Lists x (l ++ k) → Lists x (l ++ m)
+again : {x : Outcomes} (l k m : List (Carried Sets)) → once (items k) ≡ once (items m) → ((q : ℕ) → T (member q (items k)) → sets_of q k ≡ sets_of q m) → Lists x (l ++ k) → Lists x (l ++ m)
 again {x} l k m e d is =
     record {
-      good = is.good;
       are = is.are ∙ once_append l k ∙ sym (gather_once (once (items l)) (items k)) ∙ ap (gather (once (items l))) e ∙ gather_once (once (items l)) (items m) ∙ sym (once_append l m);
-      marked = λ q t. subst (Shows (get_or x.marks q 0)) (sets_append q l k ∙ go q (member q (items l)) (has q t) ∙ sym (sets_append q l m)) (is.marked q t);
+      marked = λ q t. subst (Shows (get_or x.fields q 0)) (sets_append q l k ∙ go q (member q (items l)) (has q t) ∙ sym (sets_append q l m)) (is.marked q t);
     }
   where
     has : (q : ℕ) → T (member q (listed x)) → T (member q (items l) || member q (items k))
@@ -50,37 +49,30 @@ abbrev way_to : Sets → List (Carried Sets) → ℕ → Sets
 way_to s m p = join s (sets_of p m)
 
 -- r is x, and then the first i outcomes of y after the fields that the mask b has.
-abbrev pub JoinedTo : Whole → Whole → ℕ → ℕ → Whole → Type 0
+abbrev pub JoinedTo : Outcomes → Outcomes → ℕ → ℕ → Outcomes → Type 0
 JoinedTo x y b i r = (l m : List (Carried Sets)) (s : Sets) → Lists x l → Lists y m → Shows b s → Lists r (l ++ outcomes (way_to s m) (take i (listed y)))
 
-pub join_begin : (x y : Whole) (b : ℕ) → JoinedTo x y b 0 x
+pub join_begin : (x y : Outcomes) (b : ℕ) → JoinedTo x y b 0 x
 join_begin x y b l m s a c d = rw (append-nil l) a
 
-module _ (y : Whole) (g : Good y) where
-  size : length (listed y) ≡ y.len
-  size = length-take-le y.len y.items (omega (arith, g.room, g.long))
+module _ (y : Outcomes) where
+  pub item_small : (i : ℕ) → i < length (listed y) → get_or (listed y) i 0 ≤ 64
+  item_small i h = y.good.small _ (member_get_d (listed y) i h)
 
-  item_listed : (i : ℕ) → i < y.len → T (member (get_or y.items i 0) (listed y))
-  item_listed i h = subst (λ q. T (member q (listed y))) (get_or-take y.len y.items i 0 h) (member_get_d (listed y) i (omega (arith, size)))
-
-  pub item_small : (i : ℕ) → i < y.len → get_or y.items i 0 ≤ 64
-  item_small i h = g.small _ (item_listed i h)
-
-  module _ {x : Whole} {b : ℕ} (i : ℕ) {r : Whole} (before : JoinedTo x y b i r) where
-    pub join_turn : {r' : Whole} → i < y.len → Added r (get_or y.items i 0) (bit_or b (get_or y.marks (get_or y.items i 0) 0)) r' → JoinedTo x y b (i + 1) r'
+  module _ {x : Outcomes} {b : ℕ} (i : ℕ) {r : Outcomes} (before : JoinedTo x y b i r) where
+    pub join_turn : {r' : Outcomes} → i < length (listed y) → Added r (get_or (listed y) i 0) (bit_or b (get_or y.fields (get_or (listed y) i 0) 0)) r' → JoinedTo x y b (i + 1) r'
     join_turn h added l m s a c d =
-        let p = get_or y.items i 0 in
+        let p = get_or (listed y) i 0 in
         let o = outcome p (way_to s m p) in
-        let e : take (i + 1) (listed y) ≡ take i (listed y) ++ (p ∷ []) =
-        rw (add-one i, take-suc (listed y) i 0 (omega (arith, size)), get_or-take y.len y.items i 0 h) in
+        let e : take (i + 1) (listed y) ≡ take i (listed y) ++ (p ∷ []) = rw (add-one i, take-suc (listed y) i 0 h) in
         rw (e, map-append (λ q. outcome q (way_to s m q)) (take i (listed y)) (p ∷ []), ← append_assoc l (outcomes (way_to s m) (take i (listed y))) (o ∷ []))
-        (added.lists _ o (before l m s a c d) (outcome_item p (way_to s m p)) (rw (outcome_sets p (way_to s m p)) (shows_join d (c.marked p (item_listed i h)))))
+        (added.lists _ o (before l m s a c d) (outcome_item p (way_to s m p)) (rw (outcome_sets p (way_to s m p)) (shows_join d (c.marked p (member_get_d (listed y) i h)))))
 
-    pub join_done : y.len ≤ i → Good r → Joined x y b r
-    join_done h good = record { good = good; lists = lists }
+    pub join_done : length (listed y) ≤ i → Joined x y b r
+    join_done h = record { lists = lists }
       where
         lists : (l m : List (Carried Sets)) (s : Sets) → Lists x l → Lists y m → Shows b s → Lists r (l ++ joined s m)
-        lists l m s a c d = again l (outcomes (way_to s m) (listed y)) (joined s m) once_same sets_same (rw (take_all i (listed y) (omega (arith, size))) at (before l m s a c d))
+        lists l m s a c d = again l (outcomes (way_to s m) (listed y)) (joined s m) once_same sets_same (rw (take_all i (listed y) h) at (before l m s a c d))
           where
             once_same : once (items (outcomes (way_to s m) (listed y))) ≡ once (items (joined s m))
             once_same = rw (outcomes_items (way_to s m) (listed y), c.are, items_joined s m) (gather_once [] (items m))

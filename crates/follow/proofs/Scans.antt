@@ -1,36 +1,44 @@
--- A scan of the kinds for one of them, and a copy into a row.
+-- A scan of the kinds for one of them.
 -- Assumes nothing.
-use mathlib.Core.Path.{◌≡◌, sym, ap, ◌∙◌}
-use Prim.Native.Nat.{ℕ, ◌+◌, ◌≤◌, ◌<◌}
-use mathlib.Core.Bool.{Bool, true, false, true≢false}
+use mathlib.Core.Path.{◌≡◌, refl, sym, ap, ◌∙◌}
+use Prim.Native.Nat.{ℕ, ◌-◌, ◌<◌}
+use mathlib.Core.Bool.{Bool, true, false, not, true≢false}
 use mathlib.Core.List.{List}
 use native.Mathlib.Omega.{arith}
 use native.Mathlib.Decide.{dec_lt}
-use native.Mathlib.Numerals.{add-one}
-use lib.ListN.{length, get_or, set}
-use lib.Seq.{paste, paste-suc}
-use Rattle.follow.specs.Parts.{Stands, Lacks}
+use lib.ListN.{length, get_or, length-drop, get_or-eq_default}
+use lib.Dec.{eqb}
+use borrow.Author.Tests.{eq-eqb}
+use Rattle.std.specs.List.{between}
+use Rattle.std.proofs.lemmas.List.{length-take}
+use Rattle.std.proofs.lemmas.List.Edits.{get_or-between}
+use Rattle.std.proofs.lemmas.List.Folds.{list_any_at}
+use Rattle.follow.specs.Parts.{Stands, lacks}
 
-module _ (kinds : List ℕ) (low kind : ℕ) where
-  pub lacks_begin : Stands kinds low low kind → ⊥
-  lacks_begin s = omega (arith, s.1, s.2)
+not_true : (b : Bool) → not b ≡ true → b ≡ false
+not_true true e = absurd (true≢false (sym e))
+not_true false e = refl
 
-  pub lacks_more : (i : ℕ) → (Stands kinds low i kind → ⊥) → (get_or kinds i 0 ≡ kind → ⊥) → Stands kinds low (i + 1) kind → ⊥
-  lacks_more i before here s = go (dec_lt s.0 i)
+inside : (kinds : List ℕ) (i : ℕ) → 0 < get_or kinds i 0 → i < length kinds
+inside kinds i h = go (dec_lt i (length kinds))
+  where
+    go : Dec (i < length kinds) → i < length kinds
+    go (yes y) = y
+    go (no n) = let z : get_or kinds i 0 ≡ 0 = get_or-eq_default kinds 0 (omega arith) in absurd (omega arith)
+
+module _ (kinds : List ℕ) (low end kind : ℕ) where
+  pub none_stands : 0 < kind → lacks kinds low end kind ≡ true → Stands kinds low end kind → ⊥
+  none_stands k e s =
+      let (i, l, h, is) = s in
+      let there : i < length kinds = inside kinds i (omega arith) in
+      let same : get_or (between low end kinds) (i - low) 0 ≡ get_or kinds i 0 = get_or-between kinds low end (i - low) 0 (omega arith) ∙ ap (λ j. get_or kinds j 0) (omega arith) in
+      let many : i - low < length (between low end kinds) = simp (length-take, length-drop) (omega arith) in
+      true≢false (sym (list_any_at (λ y. eqb y kind) (between low end kinds) (i - low) 0 many (eq-eqb _ _ (same ∙ is))) ∙ not_true _ e)
+
+  -- Places that have the kind are some.
+  pub some_place : lacks kinds low end kind ≡ false → low < end
+  some_place e = go (dec_lt low end)
     where
-      go : Dec (s.0 < i) → ⊥
-      go (yes l) = before (s.0, s.1, l, s.3)
-      go (no n) = let e : s.0 ≡ i = omega (arith, s.2) in here (sym (ap (λ j. get_or kinds j 0) e) ∙ s.3)
-
-  pub lacks_found : (i end : ℕ) → low ≤ i → i < end → get_or kinds i 0 ≡ kind → Lacks kinds low end kind false
-  lacks_found i end l h e = record { none = λ f s. true≢false (sym f); some = λ f. (i, l, h, e) }
-
-  pub lacks_none : (i end : ℕ) → (Stands kinds low i kind → ⊥) → end ≤ i → Lacks kinds low end kind true
-  lacks_none i end n h = record { none = λ f s. n (s.0, s.1, omega (arith, s.2), s.3); some = λ f. absurd (true≢false f) }
-
-pub copy_turn : (d : List ℕ) (at : ℕ) (s : List ℕ) (i : ℕ) → at + i < length d → i < length s → set (paste d at s i) (at + i) (get_or s i 0) ≡ paste d at s (i + 1)
-copy_turn d at s i h k = rw (add-one i) (paste-suc d at s i 0 h k)
-
--- A place that has the kind is a place.
-pub some_place : {kinds : List ℕ} {low end kind : ℕ} {r : Bool} → Lacks kinds low end kind r → r ≡ false → low < end
-some_place l e = let s = l.some e in omega (arith, s.1, s.2)
+      go : Dec (low < end) → low < end
+      go (yes y) = y
+      go (no n) = let z : end - low ≡ 0 = omega arith in absurd (true≢false (rw z at e))

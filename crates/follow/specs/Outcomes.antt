@@ -1,52 +1,26 @@
--- A list of outcomes, each once, with its wanted leaves as bits and a mask of fields for each outcome.
+-- The list that an `Outcomes` of the code is, and what is added to it.
 -- Assumes nothing.
-use Rattle.std.specs.Prelude.{◌≡◌, ℕ, suc, ◌≤◌, ◌<◌, Bool, true, false, List, [], length, get_or, take, T}
+use Rattle.std.specs.Prelude.{◌≡◌, ℕ, List, [], ◌∷◌, ◌++◌, get_or, take, T}
 use Rattle.theory.specs.Standing.{member, once}
 use Rattle.traces.specs.Traces.{Carried}
-use Rattle.traces.specs.Code.Pass.{Sets, items}
-use Rattle.traces.specs.Code.Marks.{Shows, sets_of}
-use Rattle.words.specs.Sets.{has_bit}
-use Rattle.follow.specs.declared.Outcomes.{Outcomes}
-
--- An `Outcomes` of the code with the two lists that are lent beside it.
-pub record Whole : Type 0 where
-  pub items : List ℕ
-  pub len : ℕ
-  pub set : ℕ
-  pub end : ℕ
-  pub marks : List ℕ
-
-abbrev pub whole : Outcomes → List ℕ → List ℕ → Whole
-whole x items marks = record { items = items; len = x.len; set = x.set; end = x.end; marks = marks }
+use Rattle.traces.specs.Code.Pass.{Sets, item, items}
+use Rattle.traces.specs.Code.Sets.{joined}
+use Rattle.traces.specs.Code.Marks.{Shows, carried_by, sets_of}
+use Rattle.follow.specs.declared.outcomes.Outcomes.{Outcomes}
 
 -- The numbers of the list.
-abbrev pub listed : Whole → List ℕ
+abbrev pub listed : Outcomes → List ℕ
 listed x = take x.len x.items
 
-abbrev pub flag : Bool → ℕ
-flag true = 1
-flag false = 0
-
--- The list has each number once, none above 64; the bits and the flag are those of its numbers.
-pub record Good (x : Whole) : Type 0 where
-  pub long : length x.items ≡ 65
-  pub wide : length x.marks ≡ 65
-  pub room : x.len ≤ 65
-  pub each : once (listed x) ≡ listed x
-  pub small : (q : ℕ) → T (member q (listed x)) → q ≤ 64
-  pub set : (q : ℕ) → q < 64 → has_bit x.set q ≡ member (suc q) (listed x)
-  pub end : x.end ≡ flag (member 0 (listed x))
-
 -- x is the list l, each outcome the first time it comes, with what it carries then.
-pub record Lists (x : Whole) (l : List (Carried Sets)) : Type 0 where
-  pub good : Good x
+pub record Lists (x : Outcomes) (l : List (Carried Sets)) : Type 0 where
   pub are : listed x ≡ once (items l)
-  pub marked : (q : ℕ) → T (member q (listed x)) → Shows (get_or x.marks q 0) (sets_of q l)
+  pub marked : (q : ℕ) → T (member q (listed x)) → Shows (get_or x.fields q 0) (sets_of q l)
 
--- Nothing is in the list, whatever the lists lent are.
-abbrev pub Blank : Outcomes → Type 0
-Blank x = (items marks : List ℕ) → length items ≡ 65 → length marks ≡ 65 → Lists (whole x items marks) []
+-- r is the list of x, and then the outcome p with the fields that the mask b has.
+pub record Added (x : Outcomes) (p b : ℕ) (r : Outcomes) : Type 0 where
+  pub lists : (l : List (Carried Sets)) (o : Carried Sets) → Lists x l → item o ≡ p → Shows b (carried_by o) → Lists r (l ++ (o ∷ []))
 
--- Whether the list has p, whatever the lists lent are.
-abbrev pub Holds : Outcomes → ℕ → Bool → Type 0
-Holds x p r = (items marks : List ℕ) → Good (whole x items marks) → r ≡ member p (listed (whole x items marks))
+-- r is the list of x, and then that of y after the fields that the mask b has.
+pub record Joined (x y : Outcomes) (b : ℕ) (r : Outcomes) : Type 0 where
+  pub lists : (l m : List (Carried Sets)) (s : Sets) → Lists x l → Lists y m → Shows b s → Lists r (l ++ joined s m)

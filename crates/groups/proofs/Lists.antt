@@ -1,7 +1,7 @@
 -- Laws of the lists that groups are read off: two tests that agree on a list, the place of the first number that passes, and numbers chosen upwards.
 -- Assumes nothing.
 use mathlib.Core.Path.{◌≡◌, refl, sym, ap, ◌∙◌}
-use Prim.Native.Nat.{ℕ, zero, suc, ◌+◌, ◌≤◌, ◌<◌}
+use Prim.Native.Nat.{ℕ, zero, suc, ◌≤◌, ◌<◌}
 use mathlib.Core.Bool.{Bool, true, false, cond, true≢false}
 use mathlib.Core.List.{List, [], ◌∷◌, ◌++◌, map}
 use native.Mathlib.Omega.{arith}
@@ -13,11 +13,6 @@ use Rattle.theory.proofs.Tests.{T_true, true_T, or_left, or_right, or_cases, eit
 use Rattle.theory.proofs.Members.{from_range, filter_in}
 use Rattle.groups.specs.Numbers.{place_of}
 use Rattle.groups.specs.Readable.{first_or}
-
-pub get_d_from : (n d k : ℕ) → k < d → get_or (from n d) k 0 ≡ n + k
-get_d_from n zero k h = absurd (omega arith)
-get_d_from n (suc d) zero h = omega arith
-get_d_from n (suc d) (suc k) h = let e : suc n + k ≡ n + suc k = omega arith in get_d_from (suc n) d k (omega arith) ∙ e
 
 -- Two functions agree on the numbers of a list.
 abbrev pub Agree : {A : Type 0} → (ℕ → A) → (ℕ → A) → List ℕ → Type 0

@@ -2,11 +2,11 @@
 -- Assumes nothing.
 use mathlib.Core.Path.{◌≡◌, refl, sym, ap, ◌∙◌}
 use mathlib.Core.Bool.{Bool, true, false, cond}
-use mathlib.Core.List.{List, [], ◌∷◌, ◌++◌, map, map-append, append-nil}
-use Prim.Native.Nat.{ℕ, suc, ◌+◌, ◌-◌, ◌≤◌, ◌<◌}
+use mathlib.Core.List.{List, [], ◌∷◌, ◌++◌, map, map-append}
+use Prim.Native.Nat.{ℕ, suc, ◌+◌, ◌<◌}
 use native.Mathlib.Omega.{arith}
-use lib.ListN.{length, get_or, set, take, drop, length-map, get_or-append}
-use lib.Seq.{get_or-append-add, drop-cons, drop-length, take-suc, take-length, length-take-le, append_snoc, set_at, get_or_at}
+use lib.ListN.{length, get_or, set, take, drop, length-map}
+use lib.Seq.{drop-cons, take-suc, length-take-le, append_snoc, set_at, get_or_at}
 use lib.Dec.{T, eqb→eq}
 use Rattle.theory.specs.Pattern.{Re, Numbered, SameGroup}
 use Rattle.theory.specs.Spans.{greedy, posix, CutDifferently}
@@ -17,52 +17,9 @@ use Rattle.theory.proofs.Groups.{regroup_greedy, regroup_posix, regroup_cut}
 use Rattle.groups.specs.Numbers.{shares, numbers}
 use Rattle.groups.specs.Readable.{is_printable, printables, first_or, readable_by, readable}
 use Rattle.groups.specs.Turns.{same}
-use Rattle.groups.proofs.Lists.{get_d_from, first_agree}
+use Rattle.groups.proofs.Lists.{first_agree}
 use Rattle.groups.proofs.Numbers.{shares_is, groups_share}
 use Rattle.groups.proofs.Turns.{alike_same}
-
-printables_size : length printables ≡ 95
-unfolding printables
-printables_size = refl
-
-pub printable_low : (k : ℕ) → k < 79 → k + 48 ≡ get_or printables k 0
-unfolding printables
-printable_low k h =
-    let turned : k + 48 ≡ 48 + k = omega arith in
-    turned ∙ sym (get_d_from 48 79 k h) ∙ sym (get_or-append (from 48 79) (from 33 15 ++ (32 ∷ [])) 0 k h)
-
-past_low : (k : ℕ) → 79 ≤ k → get_or (from 33 15 ++ (32 ∷ [])) (k - 79) 0 ≡ get_or printables k 0
-unfolding printables
-past_low k l =
-    let there : 79 + (k - 79) ≡ k = omega arith in
-    sym (get_or-append-add (from 48 79) (from 33 15 ++ (32 ∷ [])) (k - 79) 0) ∙ ap (λ j. get_or (from 48 79 ++ (from 33 15 ++ (32 ∷ []))) j 0) there
-
-pub printable_high : (k : ℕ) → 79 ≤ k → k < 94 → k - 46 ≡ get_or printables k 0
-printable_high k l h =
-    let turned : k - 46 ≡ 33 + (k - 79) = omega arith in
-    let within : k - 79 < 15 = omega arith in
-    turned ∙ sym (get_d_from 33 15 (k - 79) within) ∙ sym (get_or-append (from 33 15) (32 ∷ []) 0 (k - 79) within) ∙ past_low k l
-
-pub printable_last : (k : ℕ) → 94 ≤ k → k < 95 → 32 ≡ get_or printables k 0
-printable_last k l h =
-    let there : 15 ≡ k - 79 = omega arith in
-    ap (λ j. get_or (from 33 15 ++ (32 ∷ [])) j 0) there ∙ past_low k (omega arith)
-
--- The look through the printable bytes, at place k.
-module _ (b : ℕ) (f : ℕ → Bool) (k : ℕ) where
-  at_place : k < 95 → first_or b f (drop k printables) ≡ cond (f (get_or printables k 0)) (get_or printables k 0) (first_or b f (drop (suc k) printables))
-  at_place h = ap (first_or b f) (drop-cons printables k 0 (omega (arith, printables_size)))
-
-  pub found_here : k < 95 → f (get_or printables k 0) ≡ true → first_or b f (drop k printables) ≡ get_or printables k 0
-  found_here h e = at_place h ∙ ap (λ c. cond c (get_or printables k 0) (first_or b f (drop (suc k) printables))) e
-
-  pub goes_on : k < 95 → f (get_or printables k 0) ≡ false → first_or b f (drop k printables) ≡ first_or b f (drop (k + 1) printables)
-  goes_on h e =
-      let more : suc k ≡ k + 1 = omega arith in
-      at_place h ∙ ap (λ c. cond c (get_or printables k 0) (first_or b f (drop (suc k) printables))) e ∙ ap (λ j. first_or b f (drop j printables)) more
-
-  pub found_nowhere : k ≡ 95 → first_or b f (drop k printables) ≡ b
-  found_nowhere e = ap (λ j. first_or b f (drop j printables)) (e ∙ sym printables_size) ∙ ap (first_or b f) (drop-length printables)
 
 -- A line whose first i bytes are replaced.
 abbrev pub replaced : (ℕ → ℕ) → List ℕ → ℕ → List ℕ
@@ -86,9 +43,6 @@ module _ (f : ℕ → ℕ) (w : List ℕ) (i : ℕ) (h : i < length w) where
       ∙ sym (append_snoc (map f (take i w)) v (drop (suc i) w))
       ∙ ap (λ l. l ++ drop (suc i) w) (ap (λ x. map f (take i w) ++ (x ∷ [])) e ∙ sym (map-append f (take i w) (get_or w i 0 ∷ [])) ∙ ap (map f) (sym (take-suc w i 0 h)))
       ∙ ap (λ j. replaced f w j) more
-
-pub replaced_all : (f : ℕ → ℕ) (w : List ℕ) (i : ℕ) → i ≡ length w → replaced f w i ≡ map f w
-replaced_all f w i e = ap (replaced f w) e ∙ ap (λ l. map f l ++ drop (length w) w) (take-length w) ∙ ap (λ l. map f w ++ l) (drop-length w) ∙ append-nil (map f w)
 
 -- By the numbers of a pattern's groups bytes become what they become for the pattern.
 module _ (r : Re) where

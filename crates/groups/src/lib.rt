@@ -1,10 +1,11 @@
 // The byte groups of a pattern, bytes that no leaf tells apart, and lines in bytes of the same groups that a person can read.
 #![tactic(auto)]
 
-ghost use Rattle.std.specs.Prelude.{◌≡◌, map, ◌+◌, ◌<◌, get_or};
+ghost use Rattle.std.specs.Prelude.{◌≡◌, ◌==◌, map, ◌+◌, ◌<◌, get_or, take};
+ghost use Rattle.std.specs.List.{position};
 ghost use Rattle.groups.specs.Numbers.{groups_by};
 ghost use Rattle.groups.specs.Readable.{is_printable, printables, readable_by};
-ghost use Rattle.groups.specs.Turns.{same, FirstAlike, GroupedTo};
+ghost use Rattle.groups.specs.Turns.{same, GroupedTo};
 
 #[derive(Drop)]
 pub struct Groups {
@@ -16,68 +17,51 @@ pub struct Groups {
     pub count: usize,
 }
 
-// How many bytes are printable.
-const PRINTABLES: usize = 95;
-
-// The first byte that has the mask of b: b itself, if no lower one has it.
-fn first_with(masks: &[u64; 256], b: usize) -> usize
+// The first of the bytes below b that has the mask of b.
+fn first_with(masks: &[u64; 256], b: usize) -> Option<usize>
     requires { b < 256 }
-    ensures { FirstAlike masks.now b result }
+    ensures { result ≡ position (λ x. x == get_or masks.now b 0) (take b masks.now) }
 {
-    let x = masks[b];
-    let mut i = 0;
-    while i < b {
-        if masks[i] == x {
-            return i;
-        }
-        i += 1;
-    }
-    i
+    let own = masks[b];
+    masks[..b].iter().position(|x| *x == own)
 }
 
-// The byte b, after those below it: it joins the group of the first byte with its mask, or begins the next group and is its lowest byte.
-// Returns how many groups there are now.
-fn place(
-    masks: &[u64; 256],
-    b: usize,
-    count: usize,
-    group: &mut [u8; 256],
-    lowest: &mut [u8; 256],
-) -> usize
-    requires { (b < 256) × GroupedTo masks.now b group.old lowest.old count }
-    ensures { GroupedTo masks.now (b + 1) group.new lowest.new result }
-{
-    let first = first_with(masks, b);
-    if first < b {
-        let g = group[first];
-        group[b] = g;
-        return count;
+impl Groups {
+    // The byte b, after those below it: it joins the group of the first byte with its mask, or begins the next group and is its lowest byte.
+    fn place(&mut self, masks: &[u64; 256], b: usize)
+        requires { (b < 256) × GroupedTo masks.now b self.old }
+        ensures { GroupedTo masks.now (b + 1) self.new }
+    {
+        match first_with(masks, b) {
+            Some(first) => {
+                self.group[b] = self.group[first];
+            }
+            None => {
+                // No more groups than bytes before b: the number fits a byte.
+                self.group[b] = self.count as u8;
+                self.lowest[self.count] = b as u8;
+                self.count += 1;
+            }
+        }
     }
-    // No more groups than bytes before b: the number fits a byte.
-    group[b] = count as u8;
-    lowest[count] = b as u8;
-    count + 1
 }
 
 // The groups of bytes with equal masks, numbered by their lowest byte, upwards from 0 (request 3).
 pub fn groups_of(masks: &[u64; 256]) -> Groups
     ensures grouped { result ≡ groups_by (same masks.now) }
 {
-    let mut group = [0u8; 256];
-    let mut lowest = [0u8; 256];
-    let mut count = 0;
-    let mut b = 0;
-    while b < 256 {
-        count = place(masks, b, count, &mut group, &mut lowest);
-        b += 1;
+    let mut groups = Groups {
+        group: [0; 256],
+        lowest: [0; 256],
+        count: 0,
+    };
+    for b in 0..256 {
+        groups.place(masks, b);
     }
-    Groups {
-        group,
-        lowest,
-        count,
-    }
+    groups
 }
 
+// From the space to the tilde.
 fn is_printable(b: u8) -> bool
     ensures { result ≡ is_printable b }
 {
@@ -85,17 +69,11 @@ fn is_printable(b: u8) -> bool
 }
 
 // The printable bytes in the order of preference, from the digits on, the space last: 48 to 126, 33 to 47, 32.
-fn printable(k: usize) -> u8
-    requires { k < 95 }
-    ensures { result ≡ get_or printables k 0 }
+#[tactic(auto, unfolding(crate::specs::Readable::printables))]
+fn printables() -> [u8; 95]
+    ensures { result ≡ printables }
 {
-    if k < 79 {
-        return (k + 48) as u8;
-    }
-    if k < 94 {
-        return (k - 46) as u8;
-    }
-    b' '
+    *b"0123456789:;<=>?@ABCDEFGHIJKLMNOPQRSTUVWXYZ[\\]^_`abcdefghijklmnopqrstuvwxyz{|}~!\"#$%&'()*+,-./ "
 }
 
 // The byte itself if it is printable or none of its group is, else the first printable one of its group.
@@ -105,14 +83,11 @@ fn readable_byte(group: &[u8; 256], b: u8) -> u8
     if is_printable(b) {
         return b;
     }
-    let own = group[words::wide(b)];
-    let mut k = 0;
-    while k < PRINTABLES {
-        let c = printable(k);
-        if group[words::wide(c)] == own {
+    let own = group[usize::from(b)];
+    for c in printables() {
+        if group[usize::from(c)] == own {
             return c;
         }
-        k += 1;
     }
     b
 }
@@ -121,9 +96,7 @@ fn readable_byte(group: &[u8; 256], b: u8) -> u8
 pub fn readable(group: &[u8; 256], line: &mut [u8])
     ensures replaced { line.new ≡ map (readable_by (same group.now)) line.old }
 {
-    let mut i = 0;
-    while i < line.len() {
-        line[i] = readable_byte(group, line[i]);
-        i += 1;
+    for b in line.iter_mut() {
+        *b = readable_byte(group, *b);
     }
 }

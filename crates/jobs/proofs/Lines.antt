@@ -1,16 +1,22 @@
 -- The lines of a file: the first, up to its newline, and the last, which may lack it.
 -- Assumes nothing.
 use mathlib.Core.Path.{◌≡◌, refl, sym, ap, ◌∙◌}
-use mathlib.Core.Bool.{Bool, true, false, cond}
+use mathlib.Core.Bool.{Bool, true, false, cond, true≢false}
 use mathlib.Core.List.{List, [], ◌∷◌, ◌++◌}
-use Prim.Native.Nat.{ℕ, suc, ◌+◌, ◌≤◌, ◌<◌}
+use Prim.Native.Nat.{ℕ, suc, ◌+◌, ◌-◌, ◌≤◌, ◌<◌}
 use native.Mathlib.Omega.{arith}
 use native.Mathlib.Decide.{dec_lt}
 use native.Mathlib.Numerals.{add-one}
-use lib.ListN.{length, get_or, take, drop, drop_of_length-le}
+use lib.ListN.{length, get_or, take, drop, drop_of_length-le, length-drop}
 use lib.Seq.{length-take-le, length-slice, take_all, drop-append-le, split_at, get_or-take, get_or-drop}
 use lib.Dec.{eqb}
-use borrow.Author.Tests.{ne_eqb}
+use borrow.Author.Tests.{eq-eqb, ne_eqb, eqb-true}
+use Rattle.std.specs.Prelude.{None, Some}
+use Rattle.std.specs.List.{position, position_or_len}
+use Rattle.std.proofs.lemmas.Bool.{lt-ltb}
+use Rattle.std.proofs.lemmas.Option.{none-some}
+use Rattle.std.proofs.lemmas.List.Quantifiers.{position-Some}
+use Rattle.std.proofs.lemmas.List.Sums.{fails_before_first}
 use Rattle.jobs.specs.Job.{beginning, lines_of, between}
 
 -- No byte is a newline.
@@ -53,18 +59,43 @@ pub record PlainFrom (file : List ℕ) (start end : ℕ) : Type 0 where
   pub inside : end ≤ length file
   pub plain : (j : ℕ) → start ≤ j → j < end → get_or file j 0 ≡ 10 → ⊥
 
-module _ {file : List ℕ} {start : ℕ} where
-  pub plain_none : start ≤ length file → PlainFrom file start start
-  plain_none h = record { order = omega arith; inside = h; plain = λ j g l. absurd (omega arith) }
-
-  pub plain_more : {end : ℕ} → PlainFrom file start end → end < length file → (get_or file end 0 ≡ 10 → ⊥) → PlainFrom file start (end + 1)
-  plain_more {end} p h b =
+-- So it is up to the first newline, or up to the end where there is none.
+pub plain_to : (file : List ℕ) (start n : ℕ) → start ≤ length file → position (λ b. eqb b 10) (drop start file) ≡ Some n
+    → PlainFrom file start (start + n) × (start + n < length file) × (get_or file (start + n) 0 ≡ 10)
+plain_to file start n h e =
+    let (l, f, none) = position-Some (λ b. eqb b 10) (drop start file) n 0 e in
+    let inside : start + n < length file = omega (arith, length-drop start file) in (
       record {
         order = omega arith;
         inside = omega arith;
-        plain = λ j g l e. elim (dec_lt j end) [ yes c ↦ p.plain j g c e | no c ↦ (let q : j ≡ end = omega arith in b (rw q at e)) ];
-      }
+        plain = λ j g l q.
+            let at : start + (j - start) ≡ j = omega arith in
+            true≢false (sym (eq-eqb _ 10 (get_or-drop start file (j - start) 0 ∙ ap (λ k. get_or file k 0) at ∙ q)) ∙ none (j - start) (omega arith));
+      },
+      inside,
+      sym (get_or-drop start file n 0) ∙ eqb-true _ 10 f,
+    )
 
+nowhere : (p : ℕ → Bool) (l : List ℕ) → position p l ≡ None → length l ≤ position_or_len p l
+nowhere p l = go (dec_lt (position_or_len p l) (length l))
+  where
+    go : Dec (position_or_len p l < length l) → position p l ≡ None → length l ≤ position_or_len p l
+    go (yes h) e = absurd (none-some _ (sym e ∙ ap (λ c. cond c (Some (position_or_len p l)) None) (lt-ltb _ _ h)))
+    go (no h) e = omega arith
+
+pub plain_all : (file : List ℕ) (start : ℕ) → start ≤ length file → position (λ b. eqb b 10) (drop start file) ≡ None → PlainFrom file start (length file)
+plain_all file start h e =
+    let p : ℕ → Bool = λ b. eqb b 10 in
+    record {
+      order = h;
+      inside = omega arith;
+      plain = λ j g l q.
+          let at : start + (j - start) ≡ j = omega arith in
+          let n = fails_before_first p (drop start file) (j - start) 0 (omega (arith, nowhere p (drop start file) e, length-drop start file)) in
+          true≢false (sym (eq-eqb _ 10 (get_or-drop start file (j - start) 0 ∙ ap (λ k. get_or file k 0) at ∙ q)) ∙ n);
+    }
+
+module _ {file : List ℕ} {start : ℕ} where
   plain_between : {end : ℕ} → PlainFrom file start end → Plain (between start end file)
   plain_between {end} p k h =
       let l : start + k < end = omega (arith, length-slice start end file p.inside) in

@@ -4,33 +4,31 @@ use Rattle.std.proofs.Common.{◌≡◌, ◌≢◌, refl, sym, ap, ◌∙◌, �
 use Rattle.std.proofs.lemmas.List.{get_or-replicate, drop_more}
 use native.Mathlib.Decide.{dec_lt}
 use Rattle.jobs.specs.declared.Job.{Job}
-use Rattle.jobs.specs.Job.{lines_of, between, pattern_at, JobOf}
+use Rattle.jobs.specs.Job.{lines_of, between, nowhere, place_at, pattern_at, JobOf}
 use Rattle.jobs.proofs.Lines.{lines_some, lines_over}
 
 -- The lines before a place are noted, at most eight; those from the place on are the file's further lines.
 pub record Noted (file : List ℕ) (job : Job) (start : ℕ) : Type 0 where
   pub few : job.count ≤ 8
-  pub starts_size : length job.starts ≡ 8
-  pub ends_size : length job.ends ≡ 8
+  pub size : length job.places ≡ 8
   pub some : job.count ≤ length (lines_of file)
   pub rest : drop job.count (lines_of file) ≡ lines_of (drop start file)
   pub patterns : (i : ℕ) → i < job.count → pattern_at file job i ≡ get_or (lines_of file) i []
-  pub spare : (i : ℕ) → job.count ≤ i → i < 8 → (get_or job.starts i 0 ≡ 0) × (get_or job.ends i 0 ≡ 0)
+  pub spare : (i : ℕ) → job.count ≤ i → i < 8 → place_at job i ≡ nowhere
 
 -- One line more.
 abbrev pub more : Job → ℕ → ℕ → Job
-more job start end = record { count = job.count + 1; starts = set job.starts job.count start; ends = set job.ends job.count end }
+more job start end = record { count = job.count + 1; places = set job.places job.count (record { start = start; end = end }) }
 
-pub noted_none : (file : List ℕ) → Noted file (record { count = 0; starts = replicate 8 0; ends = replicate 8 0 }) 0
+pub noted_none : (file : List ℕ) → Noted file (record { count = 0; places = replicate 8 nowhere }) 0
 noted_none file =
     record {
       few = omega arith;
-      starts_size = refl;
-      ends_size = refl;
+      size = refl;
       some = omega arith;
       rest = refl;
       patterns = λ i h. absurd (omega arith);
-      spare = λ i g h. (get_or-replicate 8 i 0 0 h, get_or-replicate 8 i 0 0 h);
+      spare = λ i g h. get_or-replicate 8 i nowhere nowhere h;
     }
 
 -- What a list has at a place and after it, by what is left there.
@@ -43,26 +41,25 @@ here_of L n x R e =
 
 module _ (file : List ℕ) (job : Job) (start end : ℕ) (t : Noted file job start) where
   -- The places of the patterns before stay.
-  places_stay : (i : ℕ) → i ≢ job.count → (get_or (more job start end).starts i 0 ≡ get_or job.starts i 0) × (get_or (more job start end).ends i 0 ≡ get_or job.ends i 0)
-  places_stay i n = (get_or-set_other job.starts job.count i start 0 n, get_or-set_other job.ends job.count i end 0 n)
+  place_stays : (i : ℕ) → i ≢ job.count → place_at (more job start end) i ≡ place_at job i
+  place_stays i n = get_or-set_other job.places job.count i _ nowhere n
 
   pattern_stays : (i : ℕ) → i ≢ job.count → pattern_at file (more job start end) i ≡ pattern_at file job i
-  pattern_stays i n = let s = places_stay i n in rw (s.0, s.1)
+  pattern_stays i n = ap (λ p. between p.start p.end file) (place_stays i n)
 
   pattern_new : job.count < 8 → pattern_at file (more job start end) job.count ≡ between start end file
-  pattern_new h = rw (get_or-set_same job.starts job.count start 0 (omega (arith, t.starts_size)), get_or-set_same job.ends job.count end 0 (omega (arith, t.ends_size)))
+  pattern_new h = ap (λ p. between p.start p.end file) (get_or-set_same job.places job.count _ nowhere (omega (arith, t.size)))
 
   pub noted_more : job.count < 8 → lines_of (drop start file) ≡ between start end file ∷ lines_of (drop (end + 1) file) → Noted file (more job start end) (end + 1)
   noted_more h e =
       let (inside, here, after) = here_of (lines_of file) job.count (between start end file) (lines_of (drop (end + 1) file)) (t.rest ∙ e) in
       record {
         few = omega arith;
-        starts_size = length-set job.starts job.count start ∙ t.starts_size;
-        ends_size = length-set job.ends job.count end ∙ t.ends_size;
+        size = length-set job.places job.count _ ∙ t.size;
         some = omega arith;
         rest = after;
         patterns = λ i g. at i g here (dec_lt i job.count);
-        spare = λ i g l. let n : i ≢ job.count = omega arith in let s = places_stay i n in let r = t.spare i (omega arith) l in (s.0 ∙ r.0, s.1 ∙ r.1);
+        spare = λ i g l. let n : i ≢ job.count = omega arith in place_stays i n ∙ t.spare i (omega arith) l;
       }
     where
       at : (i : ℕ) → i < job.count + 1 → get_or (lines_of file) job.count [] ≡ between start end file → Dec (i < job.count) → pattern_at file (more job start end) i ≡ get_or (lines_of file) i []

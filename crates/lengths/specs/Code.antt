@@ -1,17 +1,16 @@
 -- What the code's values mean, and lengths as the code counts them.
 -- Assumes nothing.
-use Rattle.std.specs.Prelude.{ℕ, suc, ◌+◌, min, max, Bool, true, false, cond}
-use Rattle.std.proofs.Math.Option.{Option, none, some}
+use Rattle.std.specs.Prelude.{ℕ, suc, min, Bool, true, false, cond, Option, Some, None}
+use Rattle.std.proofs.Math.Option as Theory
+use Rattle.std.proofs.Math.Option.{none, some}
 use Rattle.grammar.specs.Limits.{max_weight}
 use Rattle.lengths.specs.Lengths.{Longest, limit, no_limit, Extent}
-use Rattle.lengths.specs.declared.Greatest.{Greatest}
-use Rattle.lengths.specs.declared.Greatest.TheVariants.{Limit, NoLimit}
 use Rattle.lengths.specs.declared.Lengths.{Lengths}
 
 -- What each value means: a number of bytes, or "no limit".
-abbrev pub longest_of : Greatest → Longest
-longest_of (Limit n) = limit n
-longest_of NoLimit = no_limit
+abbrev pub longest_of : Option ℕ → Longest
+longest_of (Some n) = limit n
+longest_of None = no_limit
 
 abbrev pub meaning : Lengths → Extent
 meaning x = record { least = x.least; greatest = longest_of x.greatest }
@@ -25,13 +24,8 @@ abbrev pub bytes_of : Longest → ℕ
 bytes_of (limit n) = n
 bytes_of no_limit = 0
 
-abbrev pub limit_of : Longest → Option ℕ
+abbrev pub limit_of : Longest → Theory.Option ℕ
 limit_of g = cond (is_limited g) (some (bytes_of g)) none
-
--- The number of two parts: in a row their sum, else the larger one.
-abbrev pub of_both : Bool → ℕ → ℕ → ℕ
-of_both true a b = a + b
-of_both false a b = max a b
 
 -- No length of an accepted pattern is above the weight's limit (`counted_whole`), so the code counts any number above it as the next one.
 abbrev pub cap : ℕ → ℕ

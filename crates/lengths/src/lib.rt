@@ -2,97 +2,81 @@
 // accepted pattern has such a one, and the patterns that have grow without bound.
 #![tactic(auto)]
 
-ghost use Rattle.std.specs.Prelude.{◌≡◌, ◌+◌, ◌*◌};
+ghost use Rattle.std.specs.Prelude.{◌≡◌, ◌+◌, ◌*◌, max};
 ghost use Rattle.lengths.specs.Lengths.{together, copies, endless, no_byte, one_byte, in_row, one_of, up_to, or_more};
-ghost use Rattle.lengths.specs.Code.{longest_of, is_limited, bytes_of, meaning, of_both, cap, cap_longest, capped};
+ghost use Rattle.lengths.specs.Code.{longest_of, is_limited, bytes_of, meaning, cap, cap_longest, capped};
 
-// A greatest length: a number of bytes, or none is the greatest.
-#[derive(Clone, Copy)]
-pub enum Greatest {
-    Limit { bytes: usize },
-    NoLimit,
-}
-
-// How long a match can be.
-#[derive(Clone, Copy)]
+// How long a match can be: the least number of bytes, and the greatest, if there is one.
+#[derive(Clone, Copy, PartialEq, Eq)]
 pub struct Lengths {
     pub least: usize,
-    pub greatest: Greatest,
+    pub greatest: Option<usize>,
 }
 
-// Stands for any number above the limit of the weight.
+// Stands for any number above the limit of the weight: a number and no Option, since sums and products are cut to it by `min`.
 const ABOVE_LIMIT: usize = 65;
 
 fn sum(a: usize, b: usize) -> usize
     ensures { result ≡ cap (a + b) }
 {
-    let first = words::least(a, ABOVE_LIMIT);
-    let second = words::least(b, ABOVE_LIMIT);
-    words::least(first + second, ABOVE_LIMIT)
+    a.saturating_add(b).min(ABOVE_LIMIT)
 }
 
 fn product(n: usize, a: usize) -> usize
     ensures { result ≡ cap (n * a) }
 {
-    let times = words::least(n, ABOVE_LIMIT);
-    let each = words::least(a, ABOVE_LIMIT);
-    words::least(times * each, ABOVE_LIMIT)
+    n.saturating_mul(a).min(ABOVE_LIMIT)
 }
 
-// The number of two parts from those of both: in a row their sum, else the larger one.
-fn number(in_row: bool, a: usize, b: usize) -> usize
-    ensures { result ≡ cap (of_both in_row a b) }
+// Of two parts in a row.
+fn greatest_sum(a: Option<usize>, b: Option<usize>) -> Option<usize>
+    ensures { longest_of result ≡ cap_longest (together ◌+◌ (longest_of a) (longest_of b)) }
 {
-    if in_row {
-        return sum(a, b);
-    }
-    if a < b {
-        return words::least(b, ABOVE_LIMIT);
-    }
-    words::least(a, ABOVE_LIMIT)
+    Some(sum(a?, b?))
 }
 
-// Of two parts: in a row, or of which one is taken.
-fn greatest_of(in_row: bool, a: Greatest, b: Greatest) -> Greatest
-    ensures { longest_of result ≡ cap_longest (together (of_both in_row) (longest_of a) (longest_of b)) }
+// Of two parts of which one is taken.
+fn larger(a: Option<usize>, b: Option<usize>) -> Option<usize>
+    ensures { longest_of result ≡ cap_longest (together max (longest_of a) (longest_of b)) }
 {
-    let Greatest::Limit { bytes: first } = a else {
-        return Greatest::NoLimit;
-    };
-    let Greatest::Limit { bytes: second } = b else {
-        return Greatest::NoLimit;
-    };
-    Greatest::Limit {
-        bytes: number(in_row, first, second),
-    }
+    Some(a?.max(b?).min(ABOVE_LIMIT))
 }
 
 // Of n copies: of none, nothing is kept.
-fn greatest_copies(n: usize, a: Greatest) -> Greatest
+fn greatest_copies(n: usize, a: Option<usize>) -> Option<usize>
     ensures { longest_of result ≡ cap_longest (copies n (longest_of a)) }
 {
     if n == 0 {
-        return Greatest::Limit { bytes: 0 };
+        return Some(0);
     }
-    let Greatest::Limit { bytes } = a else {
-        return Greatest::NoLimit;
-    };
-    Greatest::Limit {
-        bytes: product(n, bytes),
-    }
+    Some(product(n, a?))
 }
 
 // Of any number of copies: there is a limit only where each has nothing.
-fn unlimited(a: Greatest) -> Greatest
+fn unlimited(a: Option<usize>) -> Option<usize>
     ensures { longest_of result ≡ cap_longest (endless (longest_of a)) }
 {
-    let Greatest::Limit { bytes } = a else {
-        return Greatest::NoLimit;
-    };
-    if bytes == 0 {
-        return Greatest::Limit { bytes: 0 };
+    match a {
+        Some(0) => Some(0),
+        _ => None,
     }
-    Greatest::NoLimit
+}
+
+// A flag and a number, for callers that cannot be handed an Option.
+impl Lengths {
+    // Whether there is a limit.
+    pub fn is_limited(self) -> bool
+        ensures limited { result ≡ is_limited (longest_of self.greatest) }
+    {
+        self.greatest.is_some()
+    }
+
+    // The limit, 0 if there is none.
+    pub fn limit(self) -> usize
+        ensures bytes { result ≡ bytes_of (longest_of self.greatest) }
+    {
+        self.greatest.unwrap_or(0)
+    }
 }
 
 // The empty sequence.
@@ -101,7 +85,7 @@ pub fn nothing() -> Lengths
 {
     Lengths {
         least: 0,
-        greatest: Greatest::Limit { bytes: 0 },
+        greatest: Some(0),
     }
 }
 
@@ -111,7 +95,7 @@ pub fn leaf() -> Lengths
 {
     Lengths {
         least: 1,
-        greatest: Greatest::Limit { bytes: 1 },
+        greatest: Some(1),
     }
 }
 
@@ -119,11 +103,9 @@ pub fn leaf() -> Lengths
 pub fn in_row(a: Lengths, b: Lengths) -> Lengths
     ensures row { meaning result ≡ capped (in_row (meaning a) (meaning b)) }
 {
-    let first = a.greatest;
-    let second = b.greatest;
     Lengths {
         least: sum(a.least, b.least),
-        greatest: greatest_of(true, first, second),
+        greatest: greatest_sum(a.greatest, b.greatest),
     }
 }
 
@@ -131,12 +113,9 @@ pub fn in_row(a: Lengths, b: Lengths) -> Lengths
 pub fn one_of(a: Lengths, b: Lengths) -> Lengths
     ensures one { meaning result ≡ capped (one_of (meaning a) (meaning b)) }
 {
-    let first = a.greatest;
-    let second = b.greatest;
-    let smaller = words::least(a.least, b.least);
     Lengths {
-        least: words::least(smaller, ABOVE_LIMIT),
-        greatest: greatest_of(false, first, second),
+        least: a.least.min(b.least).min(ABOVE_LIMIT),
+        greatest: larger(a.greatest, b.greatest),
     }
 }
 
@@ -144,10 +123,9 @@ pub fn one_of(a: Lengths, b: Lengths) -> Lengths
 pub fn up_to(m: usize, n: usize, a: Lengths) -> Lengths
     ensures copies { meaning result ≡ capped (up_to m n (meaning a)) }
 {
-    let each = a.greatest;
     Lengths {
         least: product(m, a.least),
-        greatest: greatest_copies(n, each),
+        greatest: greatest_copies(n, a.greatest),
     }
 }
 
@@ -155,29 +133,8 @@ pub fn up_to(m: usize, n: usize, a: Lengths) -> Lengths
 pub fn or_more(n: usize, a: Lengths) -> Lengths
     ensures more { meaning result ≡ capped (or_more n (meaning a)) }
 {
-    let each = a.greatest;
     Lengths {
         least: product(n, a.least),
-        greatest: unlimited(each),
-    }
-}
-
-// Whether there is a limit.
-pub fn is_limited(x: Greatest) -> bool
-    ensures limited { result ≡ is_limited (longest_of x) }
-{
-    match x {
-        Greatest::Limit { bytes: _ } => true,
-        Greatest::NoLimit => false,
-    }
-}
-
-// The limit, 0 if there is none.
-pub fn bytes_of(x: Greatest) -> usize
-    ensures bytes { result ≡ bytes_of (longest_of x) }
-{
-    match x {
-        Greatest::Limit { bytes } => bytes,
-        Greatest::NoLimit => 0,
+        greatest: unlimited(a.greatest),
     }
 }

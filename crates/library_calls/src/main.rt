@@ -4,12 +4,12 @@
 // beyond them has changed, else 'touched'. A field that is no number counts as 0.
 #![tactic(auto)]
 
-ghost use Rattle.std.specs.Prelude.{◌≤◌, ◌<◌, length};
-ghost use Rattle.lines.specs.Exchange.{Finished};
+ghost use Rattle.std.specs.Prelude.{◌≡◌, ◌==◌, ◌≤◌, ◌<◌, ◌/◌, min, length, take, drop, replicate};
+ghost use Rattle.std.specs.List.{before_first, after_first, list_all, position, take_while};
+ghost use Rattle.printing.specs.Text.{room, Prints};
 
-use checker::Verdict;
-use lines::{KEPT, SIZE, State};
-use std::io::Read;
+use lines::{Input, Responder};
+use printing::Output;
 
 // How many bytes can be lent, and how many a pattern can have.
 const TABLE: usize = 8192;
@@ -27,6 +27,28 @@ const WITNESS_BYTE: u8 = 187;
 
 const AREA_BYTE: u8 = 204;
 
+// No answer is longer: the verdict with a witness in hex, the table, the witness buffer, the area and a word.
+const LONGEST: usize = 24642;
+
+// A pattern: its first n bytes.
+#[derive(Drop)]
+struct Pattern {
+    bytes: [u8; PATTERN],
+    n: usize,
+}
+
+// Bytes that are all `mark` before a call; the first n are lent.
+#[derive(Drop)]
+struct Lent<const N: usize> {
+    bytes: [u8; N],
+    n: usize,
+    mark: u8,
+}
+
+// Answers each line with what the call did.
+#[derive(Drop)]
+struct Calls;
+
 // The value of a hex digit, 0 for any other byte.
 fn value(b: u8) -> u8
     ensures { result < 16 }
@@ -38,182 +60,167 @@ fn value(b: u8) -> u8
     }
 }
 
-// The first place from `at` on whose byte is b, or, if `other`, is another; or the end.
-fn first_from(s: &[u8], at: usize, b: u8, other: bool) -> usize
-    ensures { result ≤ length s.now }
+// Where the first space stands.
+fn space_in(s: &[u8]) -> Option<usize>
+    ensures { result ≡ position (λ b. b == 32) s.now }
 {
-    let mut i = 0;
-    while i < s.len() {
-        if at <= i && (s[i] == b) != other {
-            return i;
-        }
-        i += 1;
-    }
-    i
+    s.iter().position(|b| *b == b' ')
 }
 
-// The decimal number between two places, at most `most`. A space counts as a digit 0.
-fn number(s: &[u8], from: usize, to: usize, most: usize) -> usize
+// The bytes before the first space, and those after it.
+fn cut(s: &[u8]) -> (&[u8], &[u8])
+    ensures before { result.0.now ≡ before_first (λ b. b == 32) s.now }
+    ensures after { result.1.now ≡ after_first (λ b. b == 32) s.now }
+{
+    match space_in(s) {
+        Some(i) => (&s[..i], &s[i + 1..]),
+        None => (s, b""),
+    }
+}
+
+// A decimal number, at most `most`. A space counts as a digit 0.
+fn number(s: &[u8], most: usize) -> usize
     requires { most ≤ 8192 }
     ensures { result ≤ most }
 {
-    let digits = lines::first_of(s, to);
     let mut n = 0;
-    let mut i = from;
-    while i < digits.len() {
-        n = words::least(10 * n + value(digits[i]) as usize, most);
-        i += 1;
+    for &b in s {
+        n = (10 * n + usize::from(value(b))).min(most);
     }
     n
 }
 
-// Two hex digits.
-fn pair(high: u8, low: u8) -> u8 {
-    value(high) * 16 + value(low)
-}
-
-// The pattern before the place `to`, in hex: how many bytes it has.
-fn unhex(s: &[u8], to: usize, pattern: &mut [u8; PATTERN]) -> usize {
-    let digits = lines::first_of(s, to);
-    let mut n = 0;
-    let mut i = 1;
-    while i < digits.len() && n < PATTERN {
-        pattern[n] = pair(digits[i - 1], digits[i]);
-        n += 1;
-        i += 2;
-    }
-    n
-}
-
-fn fill(s: &mut [u8], b: u8) {
-    let mut i = 0;
-    while i < s.len() {
-        s[i] = b;
-        i += 1;
-    }
-}
-
-// Whether every byte from the place `from` on is b.
-fn only(s: &[u8], from: usize, b: u8) -> bool {
-    let mut i = from;
-    while i < s.len() {
-        if s[i] != b {
-            return false;
-        }
-        i += 1;
-    }
-    true
-}
-
-// Calls the checker with the first p bytes as the pattern: the first t bytes of the table, the first w of the witness buffer and the first a of the area are lent.
-fn lend(
-    pattern: &[u8; PATTERN],
-    p: usize,
-    table: &mut [u8],
-    t: usize,
-    witness: &mut [u8],
-    w: usize,
-    area: &mut [u8],
-    a: usize,
-) -> Verdict
-    requires { (t ≤ length table.old) × (w ≤ length witness.old) × (a ≤ length area.old) }
+// A pattern in hex, a byte for each two digits.
+fn unhex(s: &[u8]) -> Pattern
+    ensures { result.n ≡ min 512 (length s.now / 2) }
 {
-    let fixed = sets::fixed();
-    checker::check(
-        &fixed,
-        lines::first_of(pattern, p),
-        &mut table[..t],
-        &mut witness[..w],
-        &mut area[..a],
-    )
+    let mut pattern = Pattern {
+        bytes: [0; PATTERN],
+        n: 0,
+    };
+    let mut rest = s;
+    while let [a, b, more @ ..] = rest {
+        if pattern.n < PATTERN {
+            pattern.bytes[pattern.n] = 16 * value(*a) + value(*b);
+            pattern.n += 1;
+        }
+        rest = more;
+    }
+    pattern
+}
+
+// Whether every byte is b.
+fn only(s: &[u8], b: u8) -> bool
+    ensures { result ≡ list_all (λ x. x == b) s.now }
+{
+    s.iter().all(|x| *x == b)
+}
+
+impl<const N: usize> Lent<N> {
+    fn new(mark: u8, n: usize) -> Lent<N>
+        ensures { result ≡ record { bytes = replicate N mark; n = n; mark = mark } }
+    {
+        Lent {
+            bytes: [mark; N],
+            n,
+            mark,
+        }
+    }
+
+    // What is lent.
+    fn part(&self) -> &[u8]
+        ensures part { result.now ≡ take self.now.n self.now.bytes }
+        ensures most { length result.now ≤ N }
+    {
+        lines::first_of(&self.bytes, self.n)
+    }
+
+    // Whether no other byte has changed.
+    fn is_kept(&self) -> bool
+        ensures { result ≡ list_all (λ x. x == self.now.mark) (drop self.now.n self.now.bytes) }
+    {
+        only(lines::past_first(&self.bytes, self.n), self.mark)
+    }
+}
+
+// How many zero bytes come first.
+fn zeros(s: &[u8]) -> usize
+    ensures { result ≡ length (take_while (λ b. b == 0) s.now) }
+{
+    s.iter().take_while(|b| **b == 0).count()
 }
 
 // An area, whose zero bytes are counted.
-fn area_lines(out: &mut [u8; SIZE], n: usize, s: &[u8]) -> usize {
-    let zero = first_from(s, 0, 0, true);
-    let count = [(zero / 256 % 256) as u8, (zero % 256) as u8];
-    let m = printing::bytes(out, n, &count);
-    printing::bytes(out, m, &s[zero..])
-}
-
-// What the arrays hold after a call.
-fn report(
-    out: &mut [u8; SIZE],
-    n: usize,
-    table: &[u8; TABLE],
-    witness: &[u8; WITNESS],
-    area: &[u8; AREA],
-    t: usize,
-    w: usize,
-    a: usize,
-) -> usize {
-    let rows = printing::bytes(out, n, lines::first_of(table, t));
-    let line = printing::bytes(out, rows, lines::first_of(witness, w));
-    let end = area_lines(out, line, lines::first_of(area, a));
-    if only(table, t, TABLE_BYTE) && only(witness, w, WITNESS_BYTE) && only(area, a, AREA_BYTE) {
-        return printing::text(out, end, b"kept");
-    }
-    printing::text(out, end, b"touched")
-}
-
-// One call, and what it did.
-fn call(
-    out: &mut [u8; SIZE],
-    n: usize,
-    line: &[u8],
-    table: &mut [u8; TABLE],
-    witness: &mut [u8; WITNESS],
-    area: &mut [u8; AREA],
-) -> usize {
-    let mut pattern = [0u8; PATTERN];
-    let first = first_from(line, 0, b' ', false);
-    let second = first_from(line, first + 1, b' ', false);
-    let third = first_from(line, second + 1, b' ', false);
-    let p = unhex(line, first, &mut pattern);
-    let t = number(line, first, second, TABLE);
-    let w = number(line, second, third, WITNESS);
-    let a = number(line, third, line.len(), AREA);
-    fill(table, TABLE_BYTE);
-    fill(witness, WITNESS_BYTE);
-    fill(area, AREA_BYTE);
-    let x = lend(&pattern, p, table, t, witness, w, area, a);
-    let m = answers::verdict(out, n, x, witness);
-    report(out, m, table, witness, area, t, w, a)
-}
-
-// Answers the calls of the input, until it is over or a read or a write fails.
-fn run<P: Print, R: Read>(
-    rt: &P,
-    input: &mut R,
-    chunk: &mut [u8; SIZE],
-    line: &mut [u8; KEPT],
-    out: &mut [u8; SIZE],
-) -> State
-    ensures { Finished result }
+fn area_lines(out: &mut Output, s: &[u8])
+    ensures { Prints (room 6 s.now) (λ w. Unit {0}) out.old out.new }
 {
-    let mut table = [0u8; TABLE];
-    let mut witness = [0u8; WITNESS];
-    let mut area = [0u8; AREA];
-    let mut s = lines::start();
-    let mut turns = u64::MAX;
-    while turns > 0 && lines::goes_on(s) {
-        s = lines::next_line(chunk, line, s);
-        if s.whole {
-            let text = lines::first_of(line, s.n);
-            s.used = call(out, 0, text, &mut table, &mut witness, &mut area);
-        }
-        s = lines::exchange(rt, input, chunk, out, s);
-        turns -= 1;
+    let zero = zeros(s);
+    let [.., high, low] = zero.to_be_bytes();
+    out.bytes(&[high, low]);
+    out.bytes(lines::past_first(s, zero));
+}
+
+// What was lent after a call, and whether what was not lent is kept. Three slices, each with its own size, as the checker takes them.
+fn report<'a>(out: &mut Output, table: &'a [u8], witness: &'a [u8], area: &'a [u8], kept: bool)
+    ensures { Prints (room (room (room 16 table.now) witness.now) area.now) (λ w. Unit {0}) out.old out.new }
+{
+    out.bytes(table);
+    out.bytes(witness);
+    area_lines(out, area);
+    if kept {
+        out.text(b"kept");
+    } else {
+        out.text(b"touched");
     }
-    lines::finish(s)
+}
+
+// Calls the checker with what is lent, and appends its verdict and what the arrays then hold.
+fn call(
+    out: &mut Output,
+    pattern: &Pattern,
+    table: &mut Lent<TABLE>,
+    witness: &mut Lent<WITNESS>,
+    area: &mut Lent<AREA>,
+)
+    ensures { Prints 24642 (λ w. Unit {0}) out.old out.new }
+{
+    let x = checker::check(
+        &sets::fixed(),
+        lines::first_of(&pattern.bytes, pattern.n),
+        &mut table.bytes[..table.n.min(TABLE)],
+        &mut witness.bytes[..witness.n.min(WITNESS)],
+        &mut area.bytes[..area.n.min(AREA)],
+    );
+    answers::verdict(out, x, &witness.bytes);
+    let kept = table.is_kept() && witness.is_kept() && area.is_kept();
+    report(out, table.part(), witness.part(), area.part(), kept);
+}
+
+impl Responder for Calls {
+    ghost answers = { λ x l w y. Unit {0} };
+
+    ghost LONGEST = { 24642 };
+
+    fn longest(&self) -> usize {
+        LONGEST
+    }
+
+    fn answer(&mut self, out: &mut Output, line: &[u8]) {
+        let (hex, rest) = cut(line);
+        let (first, rest) = cut(rest);
+        let (second, third) = cut(rest);
+        call(
+            out,
+            &unhex(hex),
+            &mut Lent::new(TABLE_BYTE, number(first, TABLE)),
+            &mut Lent::new(WITNESS_BYTE, number(second, WITNESS)),
+            &mut Lent::new(AREA_BYTE, number(third, AREA)),
+        );
+    }
 }
 
 fn main(rt: HostRuntime) {
-    let mut input = rt.stdin();
-    let mut chunk = [0u8; SIZE];
-    let mut line = [0u8; KEPT];
-    let mut out = [0u8; SIZE];
-    let s = run(&rt, &mut input, &mut chunk, &mut line, &mut out);
-    let source = s.source;
-    lines::tell(&rt, &mut out, source);
+    let mut input = Input::new();
+    input.run(&rt, &mut rt.stdin(), &mut Calls, &mut Output::new());
+    input.tell(&rt);
 }

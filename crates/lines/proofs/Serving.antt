@@ -4,60 +4,73 @@ use mathlib.Core.Path.{◌≡◌, refl, sym, ap, ◌∙◌}
 use mathlib.Core.Logic.{◌⊎◌}
 use mathlib.Core.Bool.{true, false}
 use mathlib.Core.List.{List, [], ◌++◌, append_assoc, append-nil}
-use Prim.Native.Nat.{ℕ, ◌+◌, ◌≤◌, ◌<◌}
+use Prim.Native.Nat.{ℕ, ◌+◌, ◌<◌}
 use native.Mathlib.Omega.{arith}
-use lib.ListN.{length, take, length-append, length-take, drop_of_length-le}
-use Rattle.printing.specs.Text.{Appended}
+use lib.Dec.{leb}
+use borrow.Author.Tests.{leb-true}
+use lib.ListN.{length, take, length-append}
+use Rattle.printing.specs.Text.{Prints}
 use Rattle.printing.proofs.Laws.{fits}
-use Rattle.lines.specs.declared.State.{State}
-use Rattle.lines.specs.Lines.{rest, begun, NextLine}
+use Rattle.printing.specs.declared.Output.{Output}
+use Rattle.lines.specs.declared.Input.{Input}
+use Rattle.lines.specs.Lines.{rest, held, begun, NextLine}
 use Rattle.lines.specs.Answers.{Answers, none, next, part, Served}
 use Rattle.lines.proofs.Laws.{not_ended}
 
--- From the state s to the state r some lines are answered.
-pub record Serving {S : Type 0} (A : S → List ℕ → List ℕ → S → Type 0) (chunk line out : List ℕ) (x : S) (s : State) (line' out' : List ℕ) (y : S) (r : State) : Type 0 where
+-- From the input s to the input r some lines are answered.
+pub record Serving {S : Type 0} (A : S → List ℕ → List ℕ → S → Type 0) (s : Input) (o : Output) (x : S) (r : Input) (o' : Output) (y : S) : Type 0 where
   pub text : List ℕ
-  pub answers : Answers A x (begun line s) (rest chunk s) text y (begun line' r) (rest chunk r)
-  pub waits : take r.used out' ≡ take s.used out ++ text
-  pub used : r.used ≡ s.used + length text
+  pub answers : Answers A x (begun s.line) (rest s.chunk) text y (begun r.line) (rest r.chunk)
+  pub waits : take o'.used o'.bytes ≡ take o.used o.bytes ++ text
+  pub used : o'.used ≡ o.used + length text
+  pub chunk : r.chunk.bytes ≡ s.chunk.bytes
   pub source : r.source ≡ s.source
 
-module _ {S : Type 0} {A : S → List ℕ → List ℕ → S → Type 0} {chunk line out : List ℕ} {x : S} {s : State} where
+module _ {S : Type 0} {A : S → List ℕ → List ℕ → S → Type 0} {s : Input} {o : Output} {x : S} where
   -- None yet.
-  pub serving_first : Serving A chunk line out x s line out x s
-  serving_first = record { text = []; answers = none; waits = sym (append-nil (take s.used out)); used = omega arith; source = refl }
+  pub serving_first : Serving A s o x s o x
+  serving_first = record { text = []; answers = none; waits = sym (append-nil (take o.used o.bytes)); used = omega arith; chunk = refl; source = refl }
 
-  module _ {line₁ out₁ line₂ : List ℕ} {y : S} {r t : State} (g : Serving A chunk line out x s line₁ out₁ y r) (n : NextLine chunk line₁ r line₂ t) where
+  module _ {r t : Input} {p : Output} {y : S} (g : Serving A s o x r p y) (n : NextLine r t) where
     -- A line is whole, and its answer joins what waits.
-    pub serving_next : {out₂ w : List ℕ} {z : S} {m : ℕ} → t.whole ≡ true → A y (take t.n line₂) w z → Appended out₁ t.used w out₂ m → t.used + length w ≤ 65536
-        → Serving A chunk line out x s line₂ out₂ z (record { at = t.at; end = t.end; n = t.n; whole = t.whole; used = m; source = t.source })
-    serving_next {out₂} {w} {z} {m} e a p h =
-        let (size, text) = fits p h in
+    pub serving_next : {q : Output} {k : ℕ} {z : S} → t.line.whole ≡ true → Prints k (λ w. A y (held t.line) w z) p q → true ≡ leb (p.used + k) 65536
+        → Serving A s o x t q z
+    serving_next {q} {k} e (w, a, size, added) h =
+        let room = leb-true (p.used + k) 65536 (sym h) in
+        let (m, text) = fits added (omega arith) in
         record {
           text = g.text ++ w;
           answers = rw (e, n.left) (next g.answers (sym n.whole ∙ e) (rw n.bytes at a));
-          waits = text ∙ ap (λ k. take k out₁ ++ w) n.used ∙ ap (λ l. l ++ w) g.waits ∙ append_assoc (take s.used out) g.text w;
-          used = omega (arith, n.used, g.used, length-append g.text w);
+          waits = text ∙ ap (λ l. l ++ w) g.waits ∙ append_assoc (take o.used o.bytes) g.text w;
+          used = omega (arith, g.used, length-append g.text w);
+          chunk = n.chunk ∙ g.chunk;
           source = n.source ∙ g.source;
         }
 
     -- The chunk ends before the line does.
-    pub serving_part : t.whole ≡ false → Serving A chunk line out x s line₂ out₁ y t
+    pub serving_part : t.line.whole ≡ false → Serving A s o x t p y
     serving_part e =
-        let (u, v) = not_ended (rest chunk r) (sym n.whole ∙ e) in
+        let (u, v) = not_ended (rest r.chunk) (sym n.whole ∙ e) in
         record {
           text = g.text;
           answers = rw (e, n.bytes, n.left, u, v) (part g.answers (sym n.whole ∙ e));
-          waits = ap (λ k. take k out₁) n.used ∙ g.waits;
-          used = n.used ∙ g.used;
+          waits = g.waits;
+          used = g.used;
+          chunk = n.chunk ∙ g.chunk;
           source = n.source ∙ g.source;
         }
 
   -- Nothing is left of the chunk, or there is no room.
-  pub served : {line₁ out₁ : List ℕ} {y : S} {r : State} {longest : ℕ} → Serving A chunk line out x s line₁ out₁ y r → (rest chunk r ≡ []) ⊎ (65536 < r.used + longest)
-      → Served A longest chunk line out x s line₁ out₁ y r
-  served g e = record { text = g.text; answers = g.answers; waits = g.waits; used = g.used; source = g.source; all = e }
+  pub served : {r : Input} {p : Output} {y : S} {longest : ℕ} → Serving A s o x r p y → (rest r.chunk ≡ []) ⊎ (65536 < p.used + longest) → Served A longest s o x r p y
+  served g e = record { text = g.text; answers = g.answers; waits = g.waits; used = g.used; chunk = g.chunk; source = g.source; all = e }
 
--- A chunk that is read to its end.
-pub at_its_end : (chunk : List ℕ) (s : State) → s.end ≤ s.at → rest chunk s ≡ []
-at_its_end chunk s h = let l : length (take s.end chunk) ≤ s.at = omega (arith, length-take s.end chunk) in drop_of_length-le (take s.end chunk) l
+-- The same answers in other words: where P holds of x, B says of what g makes of it what A says of x.
+module _ {S T : Type 0} {A : S → List ℕ → List ℕ → S → Type 0} {B : T → List ℕ → List ℕ → T → Type 0} (P : S → Type 0) (g : S → T)
+    (h : (x y : S) (l w : List ℕ) → P x → A x l w y → B (g x) l w (g y) × P y) where
+  answers_map : {x : S} {first bytes text : List ℕ} {y : S} {f b : List ℕ} → P x → Answers A x first bytes text y f b → Answers B (g x) first bytes text (g y) f b × P y
+  answers_map p none = (none, p)
+  answers_map p (next a e w) = let (m, q) = answers_map p a in let (n, r) = h _ _ _ _ q w in (next m e n, r)
+  answers_map p (part a e) = let (m, q) = answers_map p a in (part m e, q)
+
+  pub served_map : {s r : Input} {o o' : Output} {x y : S} {longest : ℕ} → P x → Served A longest s o x r o' y → Served B longest s o (g x) r o' (g y)
+  served_map p v = record { text = v.text; answers = (answers_map p v.answers).0; waits = v.waits; used = v.used; chunk = v.chunk; source = v.source; all = v.all }

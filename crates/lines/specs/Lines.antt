@@ -1,9 +1,11 @@
 -- Lines: what stands up to a newline in the bytes read so far and those read next, of a long one its first 1,025 bytes.
 -- Assumes nothing.
-use Rattle.std.specs.Prelude.{◌≡◌, Bool, true, false, cond, List, [], ◌∷◌, ◌++◌, ℕ, ◌≤◌, ◌<◌, eqb, ltb, length, get_or, take, drop}
+use Rattle.std.specs.Prelude.{◌≡◌, Bool, true, false, cond, List, [], ◌∷◌, ◌++◌, ℕ, ◌≤◌, ◌<◌, eqb, ltb, length, get_or, take, drop, replicate}
 use Rattle.lines.specs.declared.Source.{Source}
 use Rattle.lines.specs.declared.Source.TheVariants.{Open, Over, Unread, Unwritten}
-use Rattle.lines.specs.declared.State.{State}
+use Rattle.lines.specs.declared.Chunk.{Chunk}
+use Rattle.lines.specs.declared.Part.{Part}
+use Rattle.lines.specs.declared.Input.{Input}
 
 -- The text begins with the word,
 abbrev pub Begins : List ℕ → List ℕ → Type 0
@@ -34,21 +36,25 @@ abbrev pub kept : List ℕ → List ℕ
 kept l = take 1025 l
 
 -- The bytes of the chunk that are still to be read.
-abbrev pub rest : List ℕ → State → List ℕ
-rest chunk s = drop s.at (take s.end chunk)
+abbrev pub rest : Chunk → List ℕ
+rest c = drop c.at (take c.end c.bytes)
+
+-- The bytes that are kept of a line.
+abbrev pub held : Part → List ℕ
+held l = take l.n l.bytes
 
 -- What is kept of a line that has begun: nothing if the last one is whole.
-abbrev pub begun : List ℕ → State → List ℕ
-begun line s = cond s.whole [] (take s.n line)
+abbrev pub begun : Part → List ℕ
+begun l = cond l.whole [] (held l)
 
 -- The line goes on with the bytes that are still to be read, up to its newline. What follows the newline is still to be read then.
-pub record NextLine (chunk line : List ℕ) (s : State) (line' : List ℕ) (r : State) : Type 0 where
-  pub bytes : take r.n line' ≡ kept (begun line s ++ up_to (rest chunk s))
-  pub whole : r.whole ≡ ended (rest chunk s)
-  pub left : rest chunk r ≡ past (rest chunk s)
-  pub onward : s.at < s.end → s.at < r.at
-  pub end : r.end ≡ s.end
-  pub used : r.used ≡ s.used
+pub record NextLine (s r : Input) : Type 0 where
+  pub bytes : held r.line ≡ kept (begun s.line ++ up_to (rest s.chunk))
+  pub whole : r.line.whole ≡ ended (rest s.chunk)
+  pub left : rest r.chunk ≡ past (rest s.chunk)
+  pub onward : s.chunk.at < s.chunk.end → s.chunk.at < r.chunk.at
+  pub end : r.chunk.end ≡ s.chunk.end
+  pub chunk : r.chunk.bytes ≡ s.chunk.bytes
   pub source : r.source ≡ s.source
 
 -- A line, if these are the bytes kept of it and those still to be read: it ends in them, or it goes on with the bytes that are read next. The last ones are what
@@ -64,10 +70,14 @@ further Over i e = ltb i e
 further Unread i e = false
 further Unwritten i e = false
 
-abbrev pub goes_on : State → Bool
-goes_on s = further s.source s.at s.end
+abbrev pub goes_on : Input → Bool
+goes_on s = further s.source s.chunk.at s.chunk.end
+
+-- Nothing is read yet.
+abbrev pub fresh : Input
+fresh = record { chunk = record { bytes = replicate 65536 0; at = 0; end = 0 }; line = record { bytes = replicate 1025 0; n = 0; whole = false }; source = Open }
 
 -- The first line of the input; there is none if the input is over or cannot be read.
-pub record FirstLine (chunk line : List ℕ) (r : State) : Type 0 where
-  pub found : r.whole ≡ true → Line [] [] (take r.n line) (rest chunk r)
-  pub none : r.whole ≡ false → goes_on r ≡ false
+pub record FirstLine (r : Input) : Type 0 where
+  pub found : r.line.whole ≡ true → Line [] [] (held r.line) (rest r.chunk)
+  pub none : r.line.whole ≡ false → goes_on r ≡ false

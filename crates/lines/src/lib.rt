@@ -1,25 +1,26 @@
-// Standard input by lines, and standard output by a buffer. Lines may have any length and hold any bytes but the newline; input and output go by chunks, so
-// memory stays the same. A program turns between two steps: it answers the lines that end in the chunk, which `next_line` finds, and exchanges what waits for
-// the next chunk. Only `exchange` reads, and it writes first; `write_out` and `tell` only write. The program lends its runtime, which prints, and its reader.
+// Standard input by lines. Lines may have any length and hold any bytes but the newline; input and output go by chunks, so memory stays the same. A program turns
+// between two steps: it answers the lines that end in the chunk, which `next_line` finds, and exchanges what waits for the next chunk. Only `exchange` reads, and it
+// writes first; `write_out` and `tell` only write. The program lends its runtime, which prints, and its reader.
 #![tactic(auto)]
 
-ghost use Rattle.std.specs.Prelude.{◌≡◌, false, List, [], ◌+◌, ◌≤◌, leb, drop, length, take};
-ghost use Rattle.lines.specs.declared.Source.TheVariants.{Open};
-ghost use Rattle.lines.specs.Lines.{BeginsWith, NextLine, goes_on, FirstLine};
-ghost use Rattle.lines.specs.Exchange.{Written, moved_to, has_begun, Exchanged, Took, ReadMore, finished, fault_line};
-ghost use Rattle.lines.specs.Steps.{Kept, KeptNow, is_open, wants_line};
+ghost use Rattle.std.specs.Prelude.{◌≡◌, ℕ, List, ◌+◌, ◌≤◌, false, leb, drop, take, replicate};
+ghost use Rattle.printing.specs.Text.{Prints};
+ghost use Rattle.lines.specs.Lines.{BeginsWith, NextLine, rest, held, goes_on, fresh, FirstLine};
+ghost use Rattle.lines.specs.Exchange.{Written, filled, has_begun, Exchanged, Took, ReadMore, finished, Finished, fault_line};
+ghost use Rattle.lines.specs.Steps.{newline_in, Kept, wants_line};
+ghost use Rattle.lines.specs.Answers.{Served};
 
+use printing::Output;
 use std::io::Read;
-use std::str;
 
-// The size of a chunk of the input, and of the output's buffer.
+// The size of a chunk of the input.
 pub const SIZE: usize = 65536;
 
 // How many bytes of a line are kept: one more than an order line may have, which tells a longer one apart.
 pub const KEPT: usize = 1025;
 
 // More can be read; the input is over; a read has failed; a write has.
-#[derive(Clone, Copy)]
+#[derive(Clone, Copy, PartialEq, Eq)]
 pub enum Source {
     Open,
     Over,
@@ -27,302 +28,318 @@ pub enum Source {
     Unwritten,
 }
 
-// Where a program stands in its input and its output.
-#[derive(Clone, Copy)]
-pub struct State {
-    // the bytes of the chunk from at to end are still to be read
+// What was read last. The bytes from `at` to `end` are still to be read.
+#[derive(Drop)]
+pub struct Chunk {
+    pub bytes: [u8; SIZE],
     pub at: usize,
     pub end: usize,
-    // how many bytes of the line are kept
+}
+
+// The first bytes of a line, n of them. If it is whole, it is read to its newline, and the next byte begins another. One that is not whole keeps its bytes here too: there is one
+// array for both.
+#[derive(Drop)]
+pub struct Part {
+    pub bytes: [u8; KEPT],
     pub n: usize,
-    // it is read to its newline: the next byte begins another
     pub whole: bool,
-    // how many bytes wait in the output's buffer
-    pub used: usize,
+}
+
+// Where a program stands in its input.
+#[derive(Drop)]
+pub struct Input {
+    pub chunk: Chunk,
+    pub line: Part,
     pub source: Source,
 }
 
-// Nothing is read yet.
-pub fn start() -> State
-    ensures start { result ≡ record { at = 0; end = 0; n = 0; whole = false; used = 0; source = Open } }
-{
-    State {
-        at: 0,
-        end: 0,
-        n: 0,
-        whole: false,
-        used: 0,
-        source: Source::Open,
-    }
+// What answers lines, one after the other.
+pub trait Responder {
+    // The text answers the line, and what was the first is the last then.
+    ghost answers: { Self → List ℕ → List ℕ → Self → Type 0 };
+
+    // No answer has more bytes.
+    ghost LONGEST: { ℕ };
+
+    fn longest(&self) -> usize
+        ensures { result ≡ LONGEST };
+
+    // Appends the answer to a line.
+    fn answer(&mut self, out: &mut Output, line: &[u8])
+        ensures { Prints LONGEST (λ w. answers self.old line.now w self.new) out.old out.new };
 }
 
 // The first n bytes; all of them where there are fewer.
 pub fn first_of(s: &[u8], n: usize) -> &[u8]
     ensures part { result.now ≡ take n s.now }
 {
-    if n < s.len() {
-        return &s[..n];
-    }
-    s
+    &s[..n.min(s.len())]
 }
 
 // What comes after the first bytes that are skipped: nothing where there are fewer.
 pub fn past_first(s: &[u8], skip: usize) -> &[u8]
     ensures part { result.now ≡ drop skip s.now }
 {
-    if skip < s.len() {
-        return &s[skip..];
-    }
-    &s[s.len()..]
+    &s[skip.min(s.len())..]
 }
 
-// Whether the first bytes are those of the word.
+// Whether the first bytes are those of the word. No crate here calls it; it stays for those who do.
 pub fn begins_with<'a>(s: &'a [u8], word: &'a [u8]) -> bool
     ensures begins { BeginsWith s.now word.now result }
 {
-    if s.len() < word.len() {
-        return false;
+    s.starts_with(word)
+}
+
+// Where the first newline stands.
+fn newline_in(s: &[u8]) -> Option<usize>
+    ensures { result ≡ newline_in s.now }
+{
+    s.iter().position(|b| *b == b'\n')
+}
+
+impl Chunk {
+    // The bytes that are still to be read.
+    fn rest(&self) -> &[u8]
+        ensures { result.now ≡ rest self.now }
+    {
+        past_first(first_of(&self.bytes, self.end), self.at)
     }
-    let mut i = 0;
-    while i < word.len() {
-        if s[i] != word[i] {
-            return false;
+}
+
+impl Part {
+    // The bytes that are kept.
+    pub fn held(&self) -> &[u8]
+        ensures held { result.now ≡ held self.now }
+    {
+        first_of(&self.bytes, self.n)
+    }
+
+    // Bytes of a line are kept that is not whole.
+    fn has_begun(&self) -> bool
+        ensures { result ≡ has_begun self.now }
+    {
+        !self.whole && self.n > 0
+    }
+
+    // More of a line: it is kept as far as there is room.
+    fn keep(&mut self, s: &[u8], whole: bool)
+        ensures { Kept self.old s.now whole self.new }
+    {
+        let n = if self.whole { 0 } else { self.n.min(KEPT) };
+        let k = s.len().min(KEPT - n);
+        self.bytes[n..n + k].copy_from_slice(&s[..k]);
+        self.n = n + k;
+        self.whole = whole;
+    }
+}
+
+impl Input {
+    // Nothing is read yet.
+    pub fn new() -> Input
+        ensures new { result ≡ fresh }
+    {
+        Input {
+            chunk: Chunk {
+                bytes: [0; SIZE],
+                at: 0,
+                end: 0,
+            },
+            line: Part {
+                bytes: [0; KEPT],
+                n: 0,
+                whole: false,
+            },
+            source: Source::Open,
         }
-        i += 1;
     }
-    true
-}
 
-// How many bytes are kept of a line that has begun.
-fn kept_now(line: &[u8; KEPT], state: State) -> usize
-    ensures { KeptNow line.now state result }
-{
-    if state.whole {
-        return 0;
-    }
-    words::least(state.n, words::length_of(line))
-}
-
-// One byte more of a line, unless enough are kept.
-fn keep(line: &mut [u8; KEPT], n: usize, b: u8) -> usize
-    requires { n ≤ 1025 }
-    ensures { Kept line.old n b line.new result }
-{
-    if n < words::length_of(line) {
-        line[n] = b;
-        return n + 1;
-    }
-    n
-}
-
-// The line goes on, up to its newline or to the chunk's end.
-pub fn next_line(chunk: &[u8; SIZE], line: &mut [u8; KEPT], state: State) -> State
-    ensures next { NextLine chunk.now line.old state line.new result }
-{
-    let bytes = first_of(chunk, state.end);
-    let mut r = state;
-    let mut at = state.at;
-    let mut n = kept_now(line, state);
-    while at < bytes.len() {
-        let b = bytes[at];
-        at += 1;
-        if b == b'\n' {
-            r.at = at;
-            r.n = n;
-            r.whole = true;
-            return r;
+    // The line goes on, up to its newline or to the chunk's end.
+    pub fn next_line(&mut self)
+        ensures next { NextLine self.old self.new }
+    {
+        let rest = self.chunk.rest();
+        match newline_in(rest) {
+            Some(i) => {
+                self.line.keep(first_of(rest, i), true);
+                self.chunk.at += i + 1;
+            }
+            None => {
+                self.line.keep(rest, false);
+                self.chunk.at = self.chunk.end;
+            }
         }
-        n = keep(line, n, b);
     }
-    r.at = state.end;
-    r.n = n;
-    r.whole = false;
-    r
-}
 
-// The bytes from at to end are still to be read, of that source.
-fn moved(state: State, at: usize, end: usize, source: Source) -> State
-    ensures { result ≡ moved_to state at end source }
-{
-    State {
-        at,
-        end,
-        n: state.n,
-        whole: state.whole,
-        used: state.used,
-        source,
+    // What waits is written out.
+    pub fn write_out<P: Print>(&mut self, rt: &P, out: &mut Output)
+        ensures written { Written self.old out.old self.new out.new }
+    {
+        if rt.write_all(first_of(&out.bytes, out.used)).is_err() {
+            self.source = Source::Unwritten;
+        }
+        out.used = 0;
     }
-}
 
-// What waits is written out.
-pub fn write_out<P: Print>(rt: &P, out: &[u8; SIZE], state: State) -> State
-    ensures written { Written state result }
-{
-    let mut r = state;
-    r.used = 0;
-    if rt.write_all(first_of(out, state.used)).is_ok() {
-        return r;
+    // The first bytes of the chunk are still to be read, of that source.
+    fn fill(&mut self, end: usize, source: Source)
+        ensures { self.new ≡ filled self.old self.old.chunk.bytes end source }
+    {
+        self.chunk.at = 0;
+        self.chunk.end = end;
+        self.source = source;
     }
-    moved(r, r.at, r.end, Source::Unwritten)
-}
 
-// Bytes of a line are kept that is not whole.
-fn has_begun(state: State) -> bool
-    ensures { result ≡ has_begun state }
-{
-    if state.whole {
-        return false;
+    // The input is over: a line that has begun gets the newline that it lacks.
+    fn end(&mut self)
+        ensures { Took self.old (Some 0) self.new }
+    {
+        if self.line.has_begun() {
+            self.chunk.bytes[0] = b'\n';
+            self.fill(1, Source::Over);
+        } else {
+            self.fill(0, Source::Over);
+        }
     }
-    state.n > 0
-}
 
-// What a read that answers `got` leaves: so many bytes, a failure below 0, and at 0 the end of the input, where a line that has begun gets the newline that it lacks.
-fn took(chunk: &mut [u8; SIZE], state: State, got: isize) -> State
-    ensures { Took state got chunk.new result }
-{
-    if got < 0 {
-        return moved(state, 0, 0, Source::Unread);
+    // What a read leaves that gives so many bytes, or fails.
+    fn took(&mut self, got: Option<usize>)
+        ensures { Took self.old got self.new }
+    {
+        match got {
+            None => self.fill(0, Source::Unread),
+            Some(n) if n > 0 => self.fill(n.min(SIZE), Source::Open),
+            Some(_) => self.end(),
+        }
     }
-    let end = io::count(got, &chunk[..]);
-    if end > 0 {
-        return moved(state, 0, end, Source::Open);
-    }
-    if has_begun(state) {
-        chunk[0] = b'\n';
-        return moved(state, 0, 1, Source::Over);
-    }
-    moved(state, 0, 0, Source::Over)
-}
 
-// Reads once.
-fn read_more<R: Read>(input: &mut R, chunk: &mut [u8; SIZE], state: State) -> State
-    ensures { ReadMore state chunk.new result }
-{
-    let got = match input.read(&mut chunk[..]) {
-        Ok(n) => n as isize,
-        Err(_) => -1,
-    };
-    took(chunk, state, got)
-}
+    // Reads once.
+    fn read_more<R: Read>(&mut self, reader: &mut R)
+        ensures { ReadMore self.old self.new }
+    {
+        let got = reader.read(&mut self.chunk.bytes).ok();
+        self.took(got);
+    }
 
-fn is_open(source: Source) -> bool
-    ensures { result ≡ is_open source }
-{
-    match source {
-        Source::Open => true,
-        Source::Over => false,
-        Source::Unread => false,
-        Source::Unwritten => false,
+    // What waits is written out; then, where the chunk is read to its end, the next one is read. Nothing is read once the input is over or a read or a write has failed.
+    pub fn exchange<P: Print, R: Read>(&mut self, rt: &P, reader: &mut R, out: &mut Output)
+        ensures exchanged { Exchanged self.old out.old self.new out.new }
+    {
+        self.write_out(rt, out);
+        if self.source != Source::Open {
+            return;
+        }
+        if self.chunk.at < self.chunk.end {
+            return;
+        }
+        self.read_more(reader);
     }
-}
 
-// What waits is written out; then, where the chunk is read to its end, the next one is read. Nothing is read once the input is over or a read or a write has failed.
-pub fn exchange<P: Print, R: Read>(
-    rt: &P,
-    input: &mut R,
-    chunk: &mut [u8; SIZE],
-    out: &[u8; SIZE],
-    state: State,
-) -> State
-    ensures exchanged { Exchanged chunk.old state chunk.new result }
-{
-    let r = write_out(rt, out, state);
-    let source = r.source;
-    if !is_open(source) {
-        return r;
+    // Whether there may be a further line: the input is open, or over and not read to its end.
+    pub fn goes_on(&self) -> bool
+        ensures going { result ≡ goes_on self.now }
+    {
+        match self.source {
+            Source::Open => true,
+            Source::Over => self.chunk.at < self.chunk.end,
+            Source::Unread | Source::Unwritten => false,
+        }
     }
-    if r.at < r.end {
-        return r;
+
+    // A program ends here. An input that could go on has no turn left, which counts as a read that fails.
+    pub fn finish(&mut self)
+        ensures finished { self.new ≡ finished self.old }
+    {
+        if self.goes_on() {
+            self.source = Source::Unread;
+        }
     }
-    read_more(input, chunk, r)
+
+    // No line is whole yet, and there may be a further one.
+    fn wants_line(&self) -> bool
+        ensures { result ≡ wants_line self.now }
+    {
+        !self.line.whole && self.goes_on()
+    }
+
+    // Answers the lines that end in the chunk, in their order, while there is room for a further answer.
+    pub fn answer_lines<A: Responder>(&mut self, responder: &mut A, out: &mut Output)
+        ensures served { Served A.answers A.LONGEST self.old out.old responder.old self.new out.new responder.new }
+    {
+        while self.chunk.at < self.chunk.end && has_room(out, responder.longest()) {
+            self.next_line();
+            if self.line.whole {
+                responder.answer(out, self.line.held());
+            }
+        }
+    }
+
+    // Answers the lines of the input, until it is over or a read or a write fails.
+    pub fn run<P: Print, R: Read, A: Responder>(
+        &mut self,
+        rt: &P,
+        reader: &mut R,
+        responder: &mut A,
+        out: &mut Output,
+    )
+        ensures finished { out.old.used ≡ 0 → Finished self.new out.new }
+        ensures closed { goes_on self.new ≡ false }
+    {
+        // A loop must end, and an input need not: no program comes to so many turns.
+        for _ in 0..u64::MAX {
+            if !self.goes_on() {
+                break;
+            }
+            self.answer_lines(responder, out);
+            self.exchange(rt, reader, out);
+        }
+        self.finish();
+    }
+
+    // Writes the line that tells a failure to standard error: none where there is no failure.
+    pub fn tell<P: Eprint>(&self, rt: &P) -> &'static str
+        ensures told { result.now ≡ fault_line self.now.source }
+    {
+        let line = fault(self.source);
+        let _ = rt.eprint(line);
+        line
+    }
 }
 
 // Whether so many bytes still fit after those that wait.
-pub fn has_room(used: usize, longest: usize) -> bool
-    ensures room { result ≡ leb (used + longest) 65536 }
+pub fn has_room(out: &Output, longest: usize) -> bool
+    ensures room { result ≡ leb (out.now.used + longest) 65536 }
 {
-    if longest > SIZE {
-        return false;
-    }
-    used <= SIZE - longest
-}
-
-// Whether there may be a further line: the input is open, or over and not read to its end.
-pub fn goes_on(state: State) -> bool
-    ensures going { result ≡ goes_on state }
-{
-    let source = state.source;
-    match source {
-        Source::Open => true,
-        Source::Over => state.at < state.end,
-        Source::Unread => false,
-        Source::Unwritten => false,
-    }
-}
-
-// The state that a program ends in. One that could go on has no turn left, which counts as a read that fails.
-pub fn finish(state: State) -> State
-    ensures finished { result ≡ finished state }
-{
-    if goes_on(state) {
-        return moved(state, state.at, state.end, Source::Unread);
-    }
-    state
-}
-
-// No line is whole yet, and there may be a further one.
-fn wants_line(state: State) -> bool
-    ensures { result ≡ wants_line state }
-{
-    if state.whole {
-        return false;
-    }
-    goes_on(state)
+    longest <= printing::SIZE && out.used <= printing::SIZE - longest
 }
 
 // Reads until a line is whole: none is where the input is over or cannot be read.
-pub fn first_line<P: Print, R: Read>(
-    rt: &P,
-    input: &mut R,
-    chunk: &mut [u8; SIZE],
-    line: &mut [u8; KEPT],
-    out: &[u8; SIZE],
-) -> State
-    ensures first { FirstLine chunk.new line.new result }
+pub fn first_line<P: Print, R: Read>(rt: &P, reader: &mut R, out: &mut Output) -> Input
+    ensures first { FirstLine result }
+    ensures waits { out.new.used ≡ 0 }
 {
-    let mut s = start();
-    let mut turns = u64::MAX;
-    while turns > 0 && wants_line(s) {
-        s = exchange(rt, input, chunk, out, s);
-        s = next_line(chunk, line, s);
-        turns -= 1;
+    let mut input = Input::new();
+    // As in `run`, there is a last turn.
+    for _ in 0..u64::MAX {
+        if !input.wants_line() {
+            break;
+        }
+        input.exchange(rt, reader, out);
+        input.next_line();
     }
-    if wants_line(s) {
-        return moved(s, s.at, s.end, Source::Unread);
+    if input.wants_line() {
+        input.source = Source::Unread;
     }
-    s
+    input
 }
 
-// The line that tells a failure, alone in the buffer: none where there is no failure.
-fn fault(out: &mut [u8; SIZE], source: Source) -> usize
-    ensures { take result out.new ≡ fault_line source }
+// The line that tells a failure: nothing where there is none.
+fn fault(source: Source) -> &'static str
+    ensures { result.now ≡ fault_line source }
 {
     match source {
-        Source::Open => 0,
-        Source::Over => 0,
-        Source::Unread => printing::text(out, 0, b"yindorka: standard input cannot be read"),
-        Source::Unwritten => {
-            printing::text(out, 0, b"yindorka: standard output cannot be written")
-        }
+        Source::Open => "",
+        Source::Over => "",
+        Source::Unread => "yindorka: standard input cannot be read\n",
+        Source::Unwritten => "yindorka: standard output cannot be written\n",
     }
-}
-
-// Writes that line to standard error, and says how many bytes of the buffer it takes.
-pub fn tell<P: Eprint>(rt: &P, out: &mut [u8; SIZE], source: Source) -> usize
-    ensures told { take result out.new ≡ fault_line source }
-{
-    let n = fault(out, source);
-    let text = str::from_utf8(first_of(out, n)).unwrap();
-    let _ = rt.eprint(text);
-    n
 }

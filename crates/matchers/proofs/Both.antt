@@ -1,27 +1,23 @@
 -- Both spans of a line from the POSIX span and the greedy end.
 -- Assumes nothing.
 use mathlib.Core.Path.{◌≡◌, refl, sym, ap, ◌∙◌}
-use mathlib.Core.Bool.{Bool, true, false, cond}
 use mathlib.Core.List.{List, [], ◌∷◌}
-use mathlib.Core.Option.{none, some}
 use Prim.Native.Nat.{ℕ, zero, suc, ◌≤◌, min}
 use native.Mathlib.Omega.{arith}
 use native.Mathlib.Decide.{dec_lt}
 use lib.ListN.{length, take, drop}
-use lib.Dec.{eqb}
-use borrow.Author.Tests.{eq-eqb, ne_eqb}
 use Rattle.theory.specs.Pattern.{Re}
 use Rattle.theory.specs.Spans.{nowhere, span, span_or, greedy, posix}
 use Rattle.theory.specs.Code.Passes.{farthest}
 use Rattle.theory.proofs.Demand.{both_none}
 use Rattle.facts.specs.Moves.{Bytes}
 use Rattle.blocks.proofs.Greedy.{greedy_upto}
-use Rattle.ends.specs.declared.End.{End}
 use Rattle.ends.specs.Ends.{place_of, Ended}
-use Rattle.starts.specs.declared.Best.{Best}
+use Rattle.std.specs.Prelude.{Option, Some, None}
+use Rattle.std.specs.Option.{unwrap_or}
+use Rattle.starts.specs.declared.Span as Code
 use Rattle.starts.specs.Spans.{Found}
 use Rattle.matchers.specs.Tables.{Tables}
-use Rattle.matchers.specs.declared.Spans.TheVariants.{Nowhere, Located}
 use Rattle.matchers.specs.Cuts.{Cuts}
 
 -- The line up to the POSIX end.
@@ -43,26 +39,27 @@ bytes_take (suc n) (b ∷ w) h (suc k) = bytes_take n w (λ i. h (suc i)) k
 no_span : {i j : ℕ} → span i j ≡ nowhere → ⊥
 no_span e = let z : ◌≡◌ {A = ℕ} 0 1 = cc in omega arith
 
-module _ {t : Tables} {w : List ℕ} (bytes : Bytes w) {b : Best} (found : Found t.arrays.masks t.arrays.sets t.arrays.ends t.facts w b) where
-  pub cut_none : (b.some ≡ 1 → ⊥) → Cuts t w Nowhere
-  cut_none n = record {
+module _ {t : Tables} {w : List ℕ} (bytes : Bytes w) where
+  pub cut_none : Found t.arrays.masks t.arrays.sets t.arrays.ends t.facts w None → Cuts t w None
+  cut_none found = record {
     cut = λ {r} own.
-        let p : nowhere ≡ posix r w = ap (λ c. cond c (span b.start b.end) nowhere) (sym (ne_eqb b.some 1 n)) ∙ found.posix_is own.lent own.known bytes in
+        let p : nowhere ≡ posix r w = found.posix_is own.lent own.known bytes in
         record { greedily = sym ((both_none r w).1 (sym p)); longest = p };
   }
 
   -- The greedy end is there if the POSIX end is.
-  pub cut_some : {n : ℕ} {e : End} → b.some ≡ 1 → n ≡ min b.end (length w) → Ended t.arrays (take n w) b.start e → Cuts t w (Located b.start e.at b.end)
-  cut_some {n} {e} y least ended = record {
+  pub cut_some : {b : Code.Span} {n : ℕ} {e : Option ℕ} → Found t.arrays.masks t.arrays.sets t.arrays.ends t.facts w (Some b) → n ≡ min b.end (length w) → Ended t.arrays (take n w) b.start e
+      → Cuts t w (Some (record { start = b.start; greedy = unwrap_or e 0; posix = b.end }))
+  cut_some {b} {n} {e} found least ended = record {
     cut = λ {r} own.
-        let p : span b.start b.end ≡ posix r w = ap (λ c. cond c (span b.start b.end) nowhere) (sym (eq-eqb b.some 1 y)) ∙ found.posix_is own.lent own.known bytes in
+        let p : span b.start b.end ≡ posix r w = found.posix_is own.lent own.known bytes in
         let g : greedy r w ≡ span_or b.start (place_of e) nowhere =
         greedy_upto r own.lent.numbered w b.start b.end (sym p)
         ∙ ap (λ l. span_or b.start (farthest r (λ s. s.first) (drop b.start l) b.start) nowhere) (sym (take_least n b.end w least))
         ∙ ap (λ o. span_or b.start o nowhere) (sym (ended.last own.lent (bytes_take n w bytes))) in
-        record { greedily = go r p (eqb e.some 1) g; longest = p };
+        record { greedily = go r p e g; longest = p };
   }
     where
-      go : (r : Re) → span b.start b.end ≡ posix r w → (c : Bool) → greedy r w ≡ span_or b.start (cond c (some e.at) none) nowhere → span b.start e.at ≡ greedy r w
-      go r p true g = sym g
-      go r p false g = absurd (no_span (p ∙ (both_none r w).0 g))
+      go : (r : Re) → span b.start b.end ≡ posix r w → (e : Option ℕ) → greedy r w ≡ span_or b.start (place_of e) nowhere → span b.start (unwrap_or e 0) ≡ greedy r w
+      go r p (Some j) g = sym g
+      go r p None g = absurd (no_span (p ∙ (both_none r w).0 g))

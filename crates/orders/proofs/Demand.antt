@@ -1,6 +1,6 @@
 -- What the answer to an order line says, from the pattern's bytes and in the words of demand 2.
 -- Assumes nothing.
-use mathlib.Core.Path.{◌≡◌, sym, subst}
+use mathlib.Core.Path.{◌≡◌, refl, sym, ◌∙◌, subst}
 use mathlib.Core.Logic.{◌⊎◌, inl, inr, ◌↔◌}
 use Prim.Native.Nat.{ℕ, ◌<◌, min}
 use mathlib.Core.List.{List}
@@ -15,15 +15,19 @@ use Rattle.grammar.specs.Grammar.{Alternation}
 use Rattle.grammar.specs.Loaded.{Accepts}
 use Rattle.grammar.specs.WriteOut.{write_out}
 use Rattle.grammar.proofs.Loaded.{one_tree, accepts_not_refuses}
-use Rattle.reader.specs.declared.Answer.{Answer}
-use Rattle.matchers.specs.Tables.{Tables, Ready}
-use Rattle.readings.specs.Tables.{Prepared, ready, refused}
-use Rattle.fields.specs.Cuts.{lent}
-use Rattle.printing.specs.Text.{Printed, RefusedLine, SpansLine, none_line}
-use Rattle.lines.specs.declared.State.{State}
+use Rattle.std.specs.Prelude.{Ok}
+use Rattle.matchers.specs.Tables.{Ready}
+use Rattle.readings.specs.declared.Tables.{Tables}
+use Rattle.readings.specs.Tables.{tables_in, Prepared, ready}
+use Rattle.printing.specs.declared.Output.{Output}
+use Rattle.printing.specs.Text.{Prints, RefusedLine, SpansLine, none_line}
+use Rattle.lines.specs.declared.Input.{Input}
 use Rattle.lines.specs.Lines.{kept}
 use Rattle.lines.specs.Answers.{Served}
-use Rattle.orders.specs.Orders.{OrderLine, spans, Answered, OrderAnswer, OrdersServed}
+use Rattle.lines.proofs.Serving.{served_map}
+use Rattle.orders.specs.declared.Orders.{Orders}
+use Rattle.orders.specs.declared.Orders.TheVariants.{Spans}
+use Rattle.orders.specs.Orders.{OrderLine, OrderAnswer, Answered, OrdersServed, ForSpans}
 
 -- 9 for a line above 1,024 bytes; else the spans that demand 2 asks for, or 'none' where no part of the line matches.
 pub order_means : {r : Re} {l w : List ℕ} → OrderLine r l w
@@ -54,19 +58,20 @@ order_kept r l w =
     first h (OrderLine.uncut i g p is) = absurd (omega arith)
 
 -- The tables that a pattern of the grammar is prepared with are its own,
-module _ {loaded p : List ℕ} (a : Alternation) (reads : Accepts loaded p a) {old new : Tables} {x : Answer} (prepared : Prepared loaded p old x new) where
-  own_tables : Ready (write_out loaded a) new
+module _ {loaded p : List ℕ} (a : Alternation) (reads : Accepts loaded p a) {t : Tables} (prepared : ForSpans loaded p (Ok (Spans t))) where
+  own_tables : Ready (write_out loaded a) (tables_in t)
   own_tables = go prepared
     where
-      go : Prepared loaded p old x new → Ready (write_out loaded a) new
-      go (ready {a = b} e h t) = subst (λ c. Ready (write_out loaded c) new) (one_tree loaded p b a h reads) t
-      go (refused {n = n} {k = k} e f q) = absurd (accepts_not_refuses loaded p a n k reads f)
+      go : Prepared loaded p (Ok t) → Ready (write_out loaded a) (tables_in t)
+      go (ready {a = b} h i) = subst (λ c. Ready (write_out loaded c) (tables_in t)) (one_tree loaded p b a h reads) i
 
   -- THE ANSWER TO AN ORDER LINE IS THE PATTERN'S, whatever the line: nothing is left to be asked of the tables.
-  pub order_answered : {marks l out out' : List ℕ} {n m : ℕ} → Answered spans (lent new marks) l out n out' m → Printed 392 (OrderLine (write_out loaded a) l) out n out' m
-  order_answered h = h.answered (write_out loaded a) own_tables
+  pub order_answered : {l : List ℕ} {o o' : Output} → Answered (Spans t) l o o' → Prints 392 (OrderLine (write_out loaded a) l) o o'
+  order_answered (w, h, size, added) = (w, h.answer (write_out loaded a) own_tables, size, added)
 
   -- and so are the answers to the lines of a chunk.
-  pub orders_answered : {marks chunk line out line' out' : List ℕ} {s t : State} → OrdersServed spans (lent new marks) chunk line out s line' out' t
-      → Served (OrderAnswer spans (write_out loaded a)) 392 chunk line out tt s line' out' tt t
-  orders_answered h = h.served (write_out loaded a) own_tables
+  pub orders_answered : {s r : Input} {o o' : Output} {y : Orders} → OrdersServed (Spans t) s o r o' y
+      → Served (λ (x : Unit {0}) l w (y : Unit {0}). OrderLine (write_out loaded a) l w) 392 s o tt r o' tt
+  orders_answered v =
+      served_map (λ x. x ≡ Spans t) (λ x. tt)
+      (λ x y l w q (e, h). ((subst (λ z. OrderAnswer z l w) q h).answer (write_out loaded a) own_tables, e ∙ q)) refl v

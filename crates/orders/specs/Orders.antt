@@ -1,16 +1,21 @@
 -- "Each order line prints `greedy 0 1 posix 0 2`, `none` or a refusal" (paper 01, "The programs"); or, where it is asked for, the greedy span with its fields (request 2).
 -- Assumes nothing.
-use Rattle.std.specs.Prelude.{◌≡◌, ℕ, ◌≤◌, ◌<◌, Bool, true, false, List, map, length}
+use Rattle.std.specs.Prelude.{◌≡◌, ℕ, ◌≤◌, ◌<◌, Result, Ok, Err, List, map, length}
 use Rattle.std.proofs.Math.Option.{Option, none, some}
 use Rattle.theory.specs.Standing.{from}
 use Rattle.traces.specs.Fields.{Field, absent, between, field_at}
 use Rattle.traces.specs.Code.Marks.{Marks}
-use Rattle.fields.specs.Cuts.{Lent}
+use Rattle.fields.specs.Cuts.{Prepares}
 use Rattle.theory.specs.Pattern.{Re}
 use Rattle.theory.specs.Spans.{nowhere, span, greedy, posix}
 use Rattle.matchers.specs.Tables.{Ready}
-use Rattle.printing.specs.Text.{RefusedLine, SpansLine, FieldsLine, none_line, Printed}
-use Rattle.lines.specs.declared.State.{State}
+use Rattle.printing.specs.Text.{RefusedLine, SpansLine, FieldsLine, none_line, Prints}
+use Rattle.lines.specs.declared.Input.{Input}
+use Rattle.printing.specs.declared.Output.{Output}
+use Rattle.reader.specs.declared.refusal.Refusal.{Refusal}
+use Rattle.readings.specs.Tables.{tables_in, Prepared}
+use Rattle.orders.specs.declared.Orders.{Orders}
+use Rattle.orders.specs.declared.Orders.TheVariants.{Spans, Fields}
 use Rattle.lines.specs.Answers.{Served}
 
 -- The text w answers the order line l, for the pattern r. "9, a line above 1,024 bytes; place 0; that line gets no span."
@@ -30,33 +35,35 @@ pub data FieldsOrder (r : Re) (n : ℕ) (l w : List ℕ) : Type 0 where
   cut : {i k : ℕ} → length l ≤ 1024 → greedy r l ≡ span i k → FieldsLine i k (map (λ f. pair_of (field_at r l f)) (from 1 n)) w → FieldsOrder r n l w
   uncut : length l ≤ 1024 → greedy r l ≡ nowhere → w ≡ none_line → FieldsOrder r n l w
 
--- What is asked for: both spans, or the first n fields.
-pub data Asked : Type 0 where
-  spans : Asked
-  fields : ℕ → Asked
+-- The text w answers the order line l, with what is asked for: both spans, or the fields.
+abbrev pub LineFor : Orders → Re → List ℕ → List ℕ → Type 0
+LineFor (Spans t) r l w = OrderLine r l w
+LineFor (Fields x) r l w = FieldsOrder r x.count l w
 
-abbrev pub LineFor : Asked → Re → List ℕ → List ℕ → Type 0
-LineFor spans r l w = OrderLine r l w
-LineFor (fields n) r l w = FieldsOrder r n l w
+-- What is prepared is the pattern's: its tables, and for fields, of which there are at most eight, their masks.
+abbrev pub Own : Orders → Re → Type 0
+Own (Spans t) r = Ready r (tables_in t)
+Own (Fields x) r = Ready r (tables_in x.tables) × Marks r x.marks × (x.count ≤ 8)
 
--- What is lent is the pattern's: its tables, and for fields, of which there are at most eight, their masks.
-abbrev pub Own : Asked → Re → Lent → Type 0
-Own spans r t = Ready r t.tables
-Own (fields n) r t = Ready r t.tables × Marks r t.marks × (n ≤ 8)
+-- The text w answers it for the pattern of which that is prepared.
+pub record OrderAnswer (x : Orders) (l w : List ℕ) : Type 0 where
+  pub answer : (r : Re) → Own x r → LineFor x r l w
 
--- As the code says it.
-abbrev pub asked_by : Bool → ℕ → Asked
-asked_by false n = spans
-asked_by true n = fields n
+-- The answer, of at most 392 bytes, is added to what waits.
+abbrev pub Answered : Orders → List ℕ → Output → Output → Type 0
+Answered x l o o' = Prints 392 (OrderAnswer x l) o o'
 
--- The answer, of at most 392 bytes, is added to the n bytes that the buffer `old` held, for the pattern whose tables are lent.
-pub record Answered (q : Asked) (t : Lent) (l old : List ℕ) (n : ℕ) (new : List ℕ) (m : ℕ) : Type 0 where
-  pub answered : (r : Re) → Own q r t → Printed 392 (LineFor q r l) old n new m
+-- The order lines of a chunk are answered so, and what is prepared stays.
+abbrev pub OrdersServed : Orders → Input → Output → Input → Output → Orders → Type 0
+OrdersServed x s o r o' y = Served (λ x l w y. (y ≡ x) × OrderAnswer x l w) 392 s o x r o' y
 
--- The same as an answer that keeps nothing beside it.
-abbrev pub OrderAnswer : Asked → Re → Unit {0} → List ℕ → List ℕ → Unit {0} → Type 0
-OrderAnswer q r x l w y = LineFor q r l w
+-- What is prepared of a pattern for both spans, and for its fields.
+abbrev pub ForSpans : List ℕ → List ℕ → Result Orders Refusal → Type 0
+ForSpans loaded p (Ok (Spans t)) = Prepared loaded p (Ok t)
+ForSpans loaded p (Ok (Fields x)) = ⊥
+ForSpans loaded p (Err e) = Prepared loaded p (Err e)
 
--- The order lines of a chunk, for the pattern whose tables are lent.
-pub record OrdersServed (q : Asked) (t : Lent) (chunk line out : List ℕ) (s : State) (line' out' : List ℕ) (s' : State) : Type 0 where
-  pub served : (r : Re) → Own q r t → Served (OrderAnswer q r) 392 chunk line out tt s line' out' tt s'
+abbrev pub ForFields : List ℕ → List ℕ → Result Orders Refusal → Type 0
+ForFields loaded p (Ok (Spans t)) = ⊥
+ForFields loaded p (Ok (Fields x)) = Prepares loaded p (Ok x)
+ForFields loaded p (Err e) = Prepares loaded p (Err e)

@@ -6,8 +6,8 @@ use mathlib.Core.Bool.{Bool, true, false, not, ◌&&◌}
 use mathlib.Core.List.{List, ◌++◌}
 use Prim.Native.Nat.{ℕ, zero, suc, ◌+◌, ◌*◌, ◌≤◌, ◌<◌}
 use native.Mathlib.Omega.{arith}
-use lib.ListN.{length, get_or, drop, replicate, length-replicate, get_or-replicate, get_or-append}
-use lib.Seq.{drop_at}
+use lib.ListN.{length, get_or, take, drop, replicate, length-replicate, get_or-replicate, get_or-append}
+use lib.Seq.{drop_at, length-take-le}
 use lib.Dec.{eqb}
 use lib.Bits.{bit_and}
 use Rattle.theory.proofs.Tests.{either}
@@ -36,6 +36,10 @@ zero_byte n t j h = get_or-append (replicate n 0) t 0 j (omega (arith, length-re
 
 drop_zeros : (n : ℕ) (t : List ℕ) → drop n (replicate n 0 ++ t) ≡ t
 drop_zeros n t = drop_at (replicate n 0) t n (length-replicate {A = ℕ} n 0)
+
+-- What filling the first bytes with zeros leaves.
+pub clear_is : (s u : List ℕ) → area_bytes ≤ length s → u ≡ replicate (length (take area_bytes s)) 0 → u ++ drop area_bytes s ≡ cleared s
+clear_is s u h e = ap (λ v. v ++ drop area_bytes s) (e ∙ ap (λ n. replicate n 0) (length-take-le area_bytes s h)) ∙ sym (cleared_is s)
 
 -- A cleared area has no pair, and keeps what it is to keep.
 rows_cleared : (s : List ℕ) (k : ℕ) → k < 128 → row_at (cleared s) k ≡ 0

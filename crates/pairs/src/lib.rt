@@ -12,6 +12,8 @@ ghost use Rattle.pairs.specs.Leaves.{Shares, Shared, LivePass, LiveLeaves};
 ghost use Rattle.pairs.specs.Steps.{Searches, Decides};
 ghost use Rattle.pairs.specs.Tested.{Tested};
 
+use follow::TablesView;
+
 // How many bytes of the area the test needs.
 pub const AREA: usize = 1024;
 
@@ -19,14 +21,24 @@ pub const AREA: usize = 1024;
 const PAIRS: usize = 4096;
 
 // How the test ends.
-#[derive(Clone, Copy)]
+#[derive(Clone, Copy, PartialEq, Eq)]
 pub enum Ending {
     // no matched string extends to a longer matched one
     Passes,
     // some does
     Fails,
-    // the area is too short for the test
-    NoArea,
+}
+
+// The area is too short for the test.
+#[derive(Clone, Copy, PartialEq, Eq)]
+pub struct TooShort;
+
+// What the test works out of a pattern's tables: for each leaf those that share a byte with it, the leaves that come right after it, and whether an end stands after it.
+#[derive(Clone, Copy)]
+struct Leaves<'a> {
+    shares: &'a [u64; 64],
+    sets: &'a [u64; 65],
+    ending: u64,
 }
 
 // Row k of the area: eight bytes, the lowest first.
@@ -34,27 +46,16 @@ fn row(area: &[u8], k: usize) -> u64
     requires { 8 * k + 8 ≤ length area.now }
     ensures { result ≡ row_at area.now k }
 {
-    let mut x = 0u64;
-    let mut i = 8 * k + 8;
-    while 8 * k < i {
-        i -= 1;
-        x = x * 256 + words::wide(area[i]) as u64;
-    }
-    x
+    let mut bytes = [0; 8];
+    bytes.copy_from_slice(&area[8 * k..8 * k + 8]);
+    u64::from_le_bytes(bytes)
 }
 
 fn put_row(area: &mut [u8], k: usize, x: u64)
     requires { 8 * k + 8 ≤ length area.old }
     ensures { area.new ≡ put_row area.old k x }
 {
-    let end = 8 * k + 8;
-    let mut y = x;
-    let mut i = 8 * k;
-    while i < end {
-        area[i] = (y % 256) as u8;
-        y = y / 256;
-        i += 1;
-    }
+    area[8 * k..8 * k + 8].copy_from_slice(&x.to_le_bytes());
 }
 
 // The bytes that the test needs become zero, the rest is kept.
@@ -62,11 +63,7 @@ fn clear(area: &mut [u8])
     requires { 1024 ≤ length area.old }
     ensures { area.new ≡ cleared area.old }
 {
-    let mut i = 0;
-    while i < AREA {
-        area[i] = 0;
-        i += 1;
-    }
+    area[..AREA].fill(0);
 }
 
 // The leaves of a mask take its byte: each of them shares it with all of them.
@@ -75,10 +72,8 @@ fn share(shares: &mut [u64; 64], mask: u64)
     ensures { Shared shares.old mask shares.new }
 {
     let mut rest = mask;
-    while rest != 0 {
-        let t = words::take_least(rest);
-        let p = t.leaf;
-        shares[p] = words::union(shares[p], mask);
+    while let Some(t) = words::take_least(rest) {
+        shares[t.leaf] = words::union(shares[t.leaf], mask);
         rest = t.rest;
     }
 }
@@ -98,46 +93,44 @@ fn shares_of(masks: &[u64; 256]) -> [u64; 64]
     ensures { Shares masks.now result }
 {
     let mut shares = [0u64; 64];
-    let mut last = 0u64;
-    let mut b = 0;
-    while b < 256 {
-        let mask = masks[b];
-        share_next(&mut shares, mask, last);
-        last = mask;
-        b += 1;
+    let mut last = 0;
+    for mask in masks {
+        share_next(&mut shares, *mask, last);
+        last = *mask;
     }
     shares
 }
 
-// One pass over the leaves, from the last: live is a leaf that takes a byte and is followed by an end or by a live leaf.
-fn live_pass<'a>(old: u64, ending: u64, shares: &'a [u64; 64], sets: &'a [u64; 65]) -> u64
-    ensures { LivePass shares.now sets.now ending old result }
-{
-    let mut live = old;
-    let mut p = 64;
-    while 0 < p {
-        p -= 1;
-        let leads = words::either(words::has(ending, p), sets[p + 1] & live != 0);
-        let takes = words::has(shares[p], p);
-        live = words::with_if(words::both(takes, leads), live, p);
+impl Leaves<'_> {
+    // One pass over the leaves, from the last: live is a leaf that takes a byte and is followed by an end or by a live leaf.
+    fn live_pass(self, old: u64) -> u64
+        ensures { LivePass self.entry.shares.now self.entry.sets.now self.entry.ending old result }
+    {
+        let mut live = old;
+        for p in (0..64).rev() {
+            let leads = words::either(words::has(self.ending, p), self.sets[p + 1] & live != 0);
+            let takes = words::has(self.shares[p], p);
+            live = words::with_if(words::both(takes, leads), live, p);
+        }
+        live
     }
-    live
+
+    // The live leaves: passes until one finds no more.
+    fn live(self) -> u64
+        ensures { LiveLeaves self.entry.shares.now self.entry.sets.now self.entry.ending result }
+    {
+        let mut live = 0;
+        let mut more = self.live_pass(live);
+        while live != more {
+            live = more;
+            more = self.live_pass(live);
+        }
+        live
+    }
 }
 
-// The live leaves: passes until one finds no more.
-fn live_leaves<'a>(ending: u64, shares: &'a [u64; 64], sets: &'a [u64; 65]) -> u64
-    ensures { LiveLeaves shares.now sets.now ending result }
-{
-    let mut live = 0u64;
-    let mut more = live_pass(live, ending, shares, sets);
-    while live != more {
-        live = more;
-        more = live_pass(live, ending, shares, sets);
-    }
-    live
-}
-
-// The pairs of the leaf c with the leaves of a set are reached, and those that were not are pending. Hands back the leaves that have a pending pair.
+// The pairs of the leaf c with the leaves of a set are reached, and those that were not are pending. Hands back the leaves that have a pending pair: a number by value,
+// beside the area that a caller lends and whose length is asked in clauses, since it is the caller's.
 fn mark(area: &mut [u8], c: usize, set: u64, waiting: u64) -> u64
     requires { (1024 ≤ length area.old) × (c < 64) }
     ensures { MarkedBy (with_each c set) area.old waiting area.new result }
@@ -154,90 +147,73 @@ fn mark(area: &mut [u8], c: usize, set: u64, waiting: u64) -> u64
 }
 
 // The same for the pairs of each leaf of `from` with those leaves of `to` that share a byte with it.
-fn mark_all<'a>(area: &mut [u8], from: u64, to: u64, waiting: u64, shares: &'a [u64; 64]) -> u64
+fn mark_all(area: &mut [u8], from: u64, to: u64, waiting: u64, shares: &[u64; 64]) -> u64
     requires { 1024 ≤ length area.old }
     ensures { MarkedBy (sharing shares.now from to) area.old waiting area.new result }
 {
     let mut waiting = waiting;
     let mut rest = from;
-    while rest != 0 {
-        let t = words::take_least(rest);
-        let c = t.leaf;
-        waiting = mark(area, c, to & shares[c], waiting);
+    while let Some(t) = words::take_least(rest) {
+        waiting = mark(area, t.leaf, to & shares[t.leaf], waiting);
         rest = t.rest;
     }
     waiting
 }
 
 // Takes the pending pairs, a row at a time, until none is left, or until at one of them the string may end after one leaf and go on after the other: whether it may.
-fn search<'a>(
-    area: &mut [u8],
-    waiting: u64,
-    live: u64,
-    ending: u64,
-    shares: &'a [u64; 64],
-    sets: &'a [u64; 65],
-) -> bool
+fn search(area: &mut [u8], waiting: u64, live: u64, leaves: Leaves) -> bool
     requires { 1024 ≤ length area.old }
-    ensures { Searches shares.now sets.now ending live area.old waiting area.new result }
+    ensures { Searches leaves.entry.shares.now leaves.entry.sets.now leaves.entry.ending live area.old waiting area.new result }
 {
     let mut waiting = waiting;
-    let mut left = PAIRS;
-    while 0 < left {
-        if waiting == 0 {
+    for turn in 0..PAIRS {
+        let Some(t) = words::take_least(waiting) else {
             return false;
-        }
-        let t = words::take_least(waiting);
+        };
         let p = t.leaf;
-        let to = facts::carried(row(area, 64 + p), sets);
-        if words::both(words::has(ending, p), to & live != 0) {
+        let to = facts::carried(row(area, 64 + p), leaves.sets);
+        if words::both(words::has(leaves.ending, p), to & live != 0) {
             return true;
         }
         put_row(area, 64 + p, 0);
-        waiting = mark_all(area, sets[p + 1], to, t.rest, shares);
-        left -= 1;
+        waiting = mark_all(area, leaves.sets[p + 1], to, t.rest, leaves.shares);
     }
     false
 }
 
 // Whether some matched string extends to a longer one: the empty one, or one that leads to a pair.
-fn extends<'a>(
-    area: &mut [u8],
-    masks: &'a [u64; 256],
-    sets: &'a [u64; 65],
-    ends: &'a [u8; 65],
-) -> bool
+fn extends(area: &mut [u8], tables: TablesView) -> bool
     requires { 1024 ≤ length area.old }
-    ensures { Decides masks.now sets.now ends.now area.old result area.new }
+    ensures { Decides tables.entry.masks.now tables.entry.sets.now tables.entry.ends.now area.old result area.new }
 {
-    let shares = shares_of(masks);
-    let ending = facts::ending_leaves(ends);
-    let live = live_leaves(ending, &shares, sets);
-    if words::both(ends[0] == 1, sets[0] & live != 0) {
+    let shares = shares_of(tables.masks);
+    let leaves = Leaves {
+        shares: &shares,
+        sets: tables.sets,
+        ending: facts::ending_leaves(tables.ends),
+    };
+    let live = leaves.live();
+    let first = tables.sets[0];
+    if words::both(tables.ends[0] == 1, first & live != 0) {
         return true;
     }
     clear(area);
-    let waiting = mark_all(area, sets[0], sets[0], 0, &shares);
-    search(area, waiting, live, ending, &shares, sets)
+    let waiting = mark_all(area, first, first, 0, &shares);
+    search(area, waiting, live, leaves)
 }
 
-// The test of the pattern whose masks and follow tables are lent. What the area's first 1,024 bytes hold does not matter; afterwards they are zero, and the rest is kept.
+// The test of the pattern whose tables are lent. What the area's first 1,024 bytes hold does not matter; afterwards they are zero, and the rest is kept.
 // An area that is too short is kept.
-pub fn test<'a>(
-    area: &mut [u8],
-    masks: &'a [u64; 256],
-    sets: &'a [u64; 65],
-    ends: &'a [u8; 65],
-) -> Ending
-    ensures tested { Tested masks.now sets.now ends.now area.old result area.new }
+pub fn test(area: &mut [u8], tables: TablesView) -> Result<Ending, TooShort>
+    ensures tested { Tested tables.entry.masks.now tables.entry.sets.now tables.entry.ends.now area.old result area.new }
 {
     if area.len() < AREA {
-        return Ending::NoArea;
+        return Err(TooShort);
     }
-    let some = extends(area, masks, sets, ends);
+    let some = extends(area, tables);
     clear(area);
     if some {
-        return Ending::Fails;
+        return Ok(Ending::Fails);
     }
-    Ending::Passes
+    Ok(Ending::Passes)
 }

@@ -2,18 +2,21 @@
 -- Assumes nothing.
 use mathlib.Core.Path.{◌≡◌, refl, sym, ap, ◌∙◌, subst}
 use Prim.Native.Nat.{ℕ, suc, ◌+◌, ◌*◌, ◌-◌, ◌≤◌, ◌<◌, ◌/◌, ◌%◌, ◌^◌, min}
-use mathlib.Core.Bool.{Bool, true, false, not, cond}
+use mathlib.Core.Bool.{Bool, true, false, not}
 use mathlib.Core.Option.{none, some}
-use mathlib.Core.List.{List, [], ◌∷◌, ◌++◌, append_assoc, append-nil}
+use mathlib.Core.List.{List, [], ◌∷◌, ◌++◌, append_assoc}
 use native.Mathlib.Omega.{arith}
 use native.Mathlib.Numerals.{add-one}
 use native.Mathlib.Nat.{pow-le-pow_right}
 use lib.Dec.{T, leb, leb→le, nleb→lt}
-use lib.ListN.{length, take, get_or, set, length-append, length-take, length-set}
-use lib.Seq.{take_all, take-append-le, take-suc, take-suc-set, take-take, length-take-le}
+use lib.ListN.{length, take, get_or, length-append, length-take}
+use lib.Seq.{take_all, take-append-add, take-append-le, take-suc, take-take, length-take-le}
+use borrow.Rule.Slice.PartMut.{put_mid}
+use Rattle.std.proofs.lemmas.Slice.{take-put_mid}
 use Rattle.io.specs.Digits.{hex_digit_ascii, last_digits, IsDigitCount}
-use Rattle.printing.specs.Text.{Appended, Field, hex, Printed, no_fields, field, no_pairs, absent, between, pair_at, pairs_of, LimitText, limited, unlimited}
-use Rattle.printing.specs.Puts.{Put, PutField, PutFields, PutLine, PutPair, PutPairs}
+use Rattle.printing.specs.Text.{Appended, Adds, Field, hex, Printed, no_fields, field, no_pairs, absent, between, pair_at, pairs_of, LimitText, limited, unlimited}
+use Rattle.printing.specs.Puts.{PutField, PutFields, PutLine, PutPair, PutPairs}
+use Rattle.printing.specs.declared.Output.{Output}
 
 -- A part of x that is cut off does not count past the first m bytes.
 take_cut : (k m : ℕ) (x y : List ℕ) → (k < length x → m ≤ k) → take m (take k x ++ y) ≡ take m (x ++ y)
@@ -46,60 +49,37 @@ join {a} {b} {c} {n} {m} {k} {v} {w} f g =
           ∙ ap (λ x. take k x) (append_assoc (take n a) v w);
     }
 
-pub appended_join : {a b c : List ℕ} {n m k : ℕ} {v w : List ℕ} → Put a n v b m → Put b m w c k → Put a n (v ++ w) c k
-appended_join f g = record { kept = g.kept ∙ f.kept; appended = join f.appended g.appended }
-
-pub put_none : (a : List ℕ) (n m : ℕ) → length a ≡ 65536 → m ≡ min n (length a) → Put a n [] a m
-put_none a n m z e =
-    record {
-      kept = refl;
-      appended =
-          record {
-            buffer = z;
-            size = omega arith;
-            text = rw append-nil (sym (take-take m n a (omega arith)));
-          };
-    }
-
-pub put_one : (a : List ℕ) (n b : ℕ) → length a ≡ 65536 → n < length a → Put a n (b ∷ []) (set a n b) (n + 1)
-put_one a n b z h =
-    let l : length (take n a ++ (b ∷ [])) ≡ length (take n a) + 1 = length-append (take n a) (b ∷ []) in
-    let p : length (take n a) ≡ min n (length a) = length-take n a in
-    record {
-      kept = length-set a n b;
-      appended =
-          record {
-            buffer = z;
-            size = omega arith;
-            text =
-                ap (λ i. take i (set a n b)) (add-one n)
-                ∙ take-suc-set a n b h
-                ∙ sym (take_all (n + 1) (take n a ++ (b ∷ [])) (omega arith));
-          };
-    }
-
--- A full buffer takes nothing.
-pub put_full : (a : List ℕ) (n m : ℕ) (w : List ℕ) → length a ≡ 65536 → length a ≤ n → m ≡ length a → Put a n w a m
-put_full a n m w z h e =
-    record {
-      kept = refl;
-      appended =
-          record {
-            buffer = z;
-            size = omega arith;
-            text = ap (λ l. take m l) (sym (take_all n a h)) ∙ sym (take-append-le m (take n a) w (omega (arith, length-take n a)));
-          };
-    }
-
-pub same_put : {a b : List ℕ} {n m : ℕ} {v w : List ℕ} → Put a n v b m → v ≡ w → Put a n w b m
-same_put g e = rw e at g
-
 pub take_min : (k : ℕ) (l : List ℕ) → take (min k (length l)) l ≡ take k l
 take_min k l = go (leb (length l) k) (leb→le (length l) k) (nleb→lt (length l) k)
   where
     go : (b : Bool) → (T b → length l ≤ k) → (T (not b) → k < length l) → take (min k (length l)) l ≡ take k l
     go true p q = let s = p tt in take_all (min k (length l)) l (omega arith) ∙ sym (take_all k l s)
     go false p q = let s = q tt in let e : min k (length l) ≡ k = omega arith in ap (λ i. take i l) e
+
+-- The first k elements, where i is k or the length.
+pub first_of : (k : ℕ) (l : List ℕ) {i : ℕ} → i ≡ min k (length l) → take i l ≡ take k l
+first_of k l e = ap (λ i. take i l) e ∙ take_min k l
+
+pub same_text : {a b : List ℕ} {n m : ℕ} {v w : List ℕ} → Appended a n v b m → v ≡ w → Appended a n w b m
+same_text g e = rw e at g
+
+-- As much of s as there is room for is written after what waits.
+pub put_fits : (a s ys : List ℕ) (u i n : ℕ) → length a ≡ 65536 → i ≡ min u 65536 → n ≡ min (length s) (65536 - i) → ys ≡ take n s → Appended a u s (put_mid i (i + n - i) a ys) (i + n)
+put_fits a s ys u i n z e f y =
+    let l : length (take n s) ≡ min n (length s) = length-take n s in
+    let k : length ys ≡ n = omega (arith, ap length y) in
+    let t : length (take i a) ≡ i = length-take-le i a (omega arith) in
+    let w : take i a ≡ take u a = ap (λ j. take j a) (omega arith) ∙ take_min u a in
+    record {
+      buffer = z;
+      size = omega arith;
+      text =
+          take-put_mid i (i + n - i) a ys (i + n) (omega arith) (omega arith)
+          ∙ ap (λ x. take i a ++ x) y
+          ∙ sym (take-append-add (take i a) s n)
+          ∙ ap (λ j. take (j + n) (take i a ++ s)) t
+          ∙ ap (λ x. take (i + n) (x ++ s)) w;
+    }
 
 hex_join : (l m : List ℕ) → hex (l ++ m) ≡ hex l ++ hex m
 hex_join [] m = refl
@@ -184,55 +164,50 @@ pub printed_most : {k m n i : ℕ} {L : List ℕ → Type 0} {a b : List ℕ} �
 printed_most h (w, l, s, t) = (w, l, omega arith, t)
 
 -- What the brackets take: one after another, each of at most 42 bytes.
-pub put_between : {a b c : List ℕ} {n m k x y : ℕ} {here : Bool} → here ≡ true → PutField x a n b m → PutField y b m c k → PutPair (cond here (some (x, y)) none) a n c k
-put_between e f g = rw e (record {
+pub put_between : {a b c : Output} {x y : ℕ} → PutField [] x a b → PutField [] y b c → PutPair (some (x, y)) a c
+put_between f g = record {
   text = f.text ++ g.text;
   more = λ p. between p f.field g.field;
   most = omega (arith, length-append f.text g.text, f.most, g.most);
-  put = appended_join f.put g.put;
-})
+  put = join f.put g.put;
+}
 
-pub put_absent : {a b : List ℕ} {n m : ℕ} {here : Bool} (x y : ℕ) → here ≡ false → Put a n (32 ∷ 45 ∷ []) b m → PutPair (cond here (some (x, y)) none) a n b m
-put_absent x y e p = rw e (record { text = 32 ∷ 45 ∷ []; more = λ q. absent q; most = omega arith; put = p })
+pub put_absent : {a b : Output} → Adds a (32 ∷ 45 ∷ []) b → PutPair none a b
+put_absent p = record { text = 32 ∷ 45 ∷ []; more = λ q. absent q; most = omega arith; put = p }
 
-pub put_no_pairs : {a b : List ℕ} {n m known : ℕ} {places : List ℕ} → Put a n [] b m → PutPairs 0 known places a n b m
+pub put_no_pairs : {a b : Output} {known : ℕ} {places : List ℕ} → Adds a [] b → PutPairs 0 known places a b
 unfolding pairs_of
 put_no_pairs p = record { text = []; pairs = no_pairs; most = omega arith; put = p }
 
-pub put_more_pairs : {a b c : List ℕ} {n m k f known : ℕ} {places : List ℕ} → PutPairs f known places a n b m → PutPair (pair_at known places f) b m c k → PutPairs (f + 1) known places a n c k
+pub put_more_pairs : {a b c : Output} {f known : ℕ} {places : List ℕ} → PutPairs f known places a b → PutPair (pair_at known places f) b c → PutPairs (f + 1) known places a c
 unfolding pairs_of
-put_more_pairs {a = a} {c = c} {n = n} {k = k} {f = f} {known = known} {places = places} p q =
+put_more_pairs {a = a} {c = c} {f = f} {known = known} {places = places} p q =
     let e : suc f ≡ f + 1 = omega arith in
-    subst (λ i. PutPairs i known places a n c k) e (record {
+    subst (λ i. PutPairs i known places a c) e (record {
       text = p.text ++ q.text;
       pairs = q.more p.pairs;
       most = omega (arith, length-append p.text q.text, p.most, q.most);
-      put = appended_join p.put q.put;
+      put = join p.put q.put;
     })
 
 -- A limit, or none.
-pub put_limited : {a b c : List ℕ} {n m k x : ℕ} {here : Bool} → here ≡ true → Put a n (32 ∷ 103 ∷ 114 ∷ 101 ∷ 97 ∷ 116 ∷ 101 ∷ 115 ∷ 116 ∷ []) b m → PutField x b m c k
-    → PutLine 30 (LimitText (cond here (some x) none)) a n c k
-put_limited e f g = rw e (_, limited g.field, omega (arith, g.most), appended_join f g.put)
+pub put_limited : {a b : Output} {x : ℕ} → PutField (32 ∷ 103 ∷ 114 ∷ 101 ∷ 97 ∷ 116 ∷ 101 ∷ 115 ∷ 116 ∷ []) x a b → PutLine 30 (LimitText (some x)) a b
+put_limited g = (_, limited g.field, omega (arith, g.most), g.put)
 
-pub put_unlimited : {a b : List ℕ} {n m : ℕ} {here : Bool} (x : ℕ) → here ≡ false → Put a n (32 ∷ 110 ∷ 111 ∷ 32 ∷ 108 ∷ 105 ∷ 109 ∷ 105 ∷ 116 ∷ []) b m
-    → PutLine 30 (LimitText (cond here (some x) none)) a n b m
-put_unlimited x e f = rw e (_, unlimited, omega arith, f)
+pub put_unlimited : {a b : Output} → Adds a (32 ∷ 110 ∷ 111 ∷ 32 ∷ 108 ∷ 105 ∷ 109 ∷ 105 ∷ 116 ∷ []) b → PutLine 30 (LimitText none) a b
+put_unlimited f = (_, unlimited, omega arith, f)
 
 -- Numbers, each after a space.
-pub put_no_fields : {a b : List ℕ} {n m : ℕ} → Put a n [] b m → PutFields [] a n b m
+pub put_no_fields : {a b : Output} → Adds a [] b → PutFields [] a b
 put_no_fields p = record { text = []; fields = no_fields; most = omega arith; put = p }
 
-pub put_more_fields : {a b c : List ℕ} {n m k x : ℕ} (l : List ℕ) (i : ℕ) → PutFields (take i l) a n b m → PutField x b m c k → x ≡ get_or l i 0 → i < length l → PutFields (take (i + 1) l) a n c k
-put_more_fields {a} {b} {c} {n} {m} {k} {x} l i p q e h = subst (λ v. PutFields v a n c k) (ap (λ y. take i l ++ (y ∷ [])) e ∙ take_more l i h) (record {
+pub put_more_fields : {a b c : Output} {x : ℕ} (l : List ℕ) (i : ℕ) → PutFields (take i l) a b → PutField [] x b c → x ≡ get_or l i 0 → i < length l → PutFields (take (i + 1) l) a c
+put_more_fields {a} {b} {c} {x} l i p q e h = subst (λ v. PutFields v a c) (ap (λ y. take i l ++ (y ∷ [])) e ∙ take_more l i h) (record {
   text = p.text ++ q.text;
   fields = field p.fields q.field;
   most = omega (arith, length-append p.text q.text, length-append (take i l) (x ∷ []), p.most, q.most);
-  put = appended_join p.put q.put;
+  put = join p.put q.put;
 })
-
-pub put_all_fields : {a b : List ℕ} {n m : ℕ} (l : List ℕ) (i : ℕ) → PutFields (take i l) a n b m → length l ≤ i → PutFields l a n b m
-put_all_fields {a} {b} {n} {m} l i p h = subst (λ v. PutFields v a n b m) (take_all i l h) p
 
 pub fields_size : (word from to second rest : List ℕ) {n : ℕ} → length word ≡ 6 → length second ≡ 7 → length from ≤ 21 → length to ≤ 21 → length rest ≤ 42 * n → n ≤ 8
     → length (word ++ (from ++ (to ++ (second ++ (rest ++ (10 ∷ [])))))) ≤ 392

@@ -1,15 +1,20 @@
 -- The lines that the programs print (paper 01, "The programs"), as bytes in ASCII, and what it is to append them to a buffer.
 -- Assumes nothing.
-use Rattle.std.specs.Prelude.{◌≡◌, ℕ, zero, suc, ◌+◌, ◌*◌, ◌≤◌, min, ◌&&◌, cond, List, [], ◌∷◌, ◌++◌, length, get_or, take}
+use Rattle.std.specs.Prelude.{◌≡◌, ℕ, zero, suc, ◌+◌, ◌*◌, ◌≤◌, min, ◌&&◌, cond, List, [], ◌∷◌, ◌++◌, length, get_or, take, None, Some}
 use Rattle.std.proofs.Math.Option.{Option, none, some}
 use Rattle.words.specs.Sets.{has_bit}
 use Rattle.io.specs.Digits.{last_digits, IsDigitCount}
+use Rattle.printing.specs.declared.Output.{Output}
 
 -- The buffer of 65,536 bytes, which held n of them, now holds m: w is added to them, as far as it fits.
 pub record Appended (old : List ℕ) (n : ℕ) (w : List ℕ) (new : List ℕ) (m : ℕ) : Type 0 where
   pub buffer : length old ≡ 65536
   pub size : m ≡ min 65536 (n + length w)
   pub text : take m new ≡ take m (take n old ++ w)
+
+-- The same of an output: w is added to what waits.
+abbrev pub Adds : Output → List ℕ → Output → Type 0
+Adds old w new = Appended old.bytes old.used w new.bytes new.used
 
 -- A number in decimal, in the fewest digits.
 pub record Decimal (x : ℕ) (w : List ℕ) : Type 0 where
@@ -48,11 +53,12 @@ pub record RefusedLine (number place : ℕ) (w : List ℕ) : Type 0 where
   pub at : Field place second
   pub text : w ≡ (114 ∷ 101 ∷ 102 ∷ 117 ∷ 115 ∷ 101 ∷ 100 ∷ []) ++ (first ++ (second ++ (10 ∷ [])))
 
--- How long a match can be (request 6): "least 1", and then " greatest 2" or " no limit".
+-- What ends the text of how long a match can be (request 6): " greatest 2" or " no limit".
 pub data LimitText : Option ℕ → List ℕ → Type 0 where
   limited : {x : ℕ} {w : List ℕ} → Field x w → LimitText (some x) ((32 ∷ 103 ∷ 114 ∷ 101 ∷ 97 ∷ 116 ∷ 101 ∷ 115 ∷ 116 ∷ []) ++ w)
   unlimited : LimitText none (32 ∷ 110 ∷ 111 ∷ 32 ∷ 108 ∷ 105 ∷ 109 ∷ 105 ∷ 116 ∷ [])
 
+-- "least 1", and then the limit.
 pub record LengthsText (least : ℕ) (greatest : Option ℕ) (w : List ℕ) : Type 0 where
   pub first : List ℕ
   pub rest : List ℕ
@@ -152,3 +158,12 @@ room k witness = k + 2 * length witness
 -- A line of the kind L, of at most k bytes, is appended.
 abbrev pub Printed : ℕ → (List ℕ → Type 0) → List ℕ → ℕ → List ℕ → ℕ → Type 0
 Printed k L old n new m = (w : List ℕ) × L w × (length w ≤ k) × Appended old n w new m
+
+-- The same of an output.
+abbrev pub Prints : ℕ → (List ℕ → Type 0) → Output → Output → Type 0
+Prints k L old new = Printed k L old.bytes old.used new.bytes new.used
+
+-- What the code has, or nothing.
+abbrev pub option_of : {A : Type 0} → Rattle.std.specs.Prelude.Option A → Option A
+option_of None = none
+option_of (Some x) = some x

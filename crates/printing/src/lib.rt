@@ -1,54 +1,23 @@
-// The lines that the programs print, appended to a lent buffer: paper 01, "The programs". What does not fit is cut off; a program writes its buffer out in time.
+// The lines that the programs print, appended to an output of fixed size: paper 01, "The programs". What does not fit is cut off; a program writes its output out in time.
+// The bytes are put by hand: a clause knows what `write!` writes only where it writes to a `String`, and there is no heap here.
 #![tactic(auto)]
 
-ghost use Rattle.std.specs.Prelude.{◌≡◌, [], ◌∷◌, ◌++◌, cond, ◌<◌, min, take};
-ghost use Rattle.std.proofs.Math.Option.{some, none};
-ghost use Rattle.io.specs.Digits.{last_digits, hex_digit_ascii};
-ghost use Rattle.printing.specs.Text.{Appended, Printed, room, hex, AlikeLine, UnlikeLine, RefusedLine, LimitText, LengthsText, AcceptedLine, Ahead, SpansLine, FieldsLine, pairs_of, ExplainedLine, LookingText, GroupsLine, none_line};
-ghost use Rattle.printing.specs.Puts.{Put, PutField, PutFields, PutPair, PutPairs, PutLine, Unended};
+ghost use Rattle.std.specs.Prelude.{◌≡◌, [], ◌∷◌, ◌++◌, ◌<◌, min, take, replicate};
+ghost use Rattle.io.specs.Digits.{hex_digit_ascii};
+ghost use Rattle.printing.specs.Text.{Adds, Prints, option_of, room, hex, AlikeLine, UnlikeLine, RefusedLine, LimitText, LengthsText, AcceptedLine, Ahead, SpansLine, FieldsLine, pair_at, pairs_of, ExplainedLine, LookingText, GroupsLine, none_line};
+ghost use Rattle.printing.specs.Puts.{PutField, PutFields, PutPair, PutPairs, PutLine, Unended};
 
-// How many bytes of the buffer are in use: all of them where n is above its size.
-fn used(out: &[u8; 65536], n: usize) -> usize
-    ensures { Put out.now n [] out.now result }
-{
-    words::least(n, words::length_of(out))
+// How many bytes an output has.
+pub const SIZE: usize = 65536;
+
+// The first `used` bytes wait to be written out: all of them, if `used` is above the size.
+#[derive(Drop)]
+pub struct Output {
+    pub bytes: [u8; SIZE],
+    pub used: usize,
 }
 
-// One byte more.
-fn put_byte(out: &mut [u8; 65536], n: usize, b: u8) -> usize
-    ensures { Put out.old n (b ∷ []) out.new result }
-{
-    let end = words::length_of(out);
-    if n < end {
-        out[n] = b;
-        return n + 1;
-    }
-    end
-}
-
-// The bytes of a slice in turn.
-fn put(out: &mut [u8; 65536], n: usize, s: &[u8]) -> usize
-    ensures { Put out.old n s.now out.new result }
-{
-    let mut m = used(out, n);
-    let mut i = 0;
-    while i < s.len() {
-        m = put_byte(out, m, s[i]);
-        i += 1;
-    }
-    m
-}
-
-// A space and a number in decimal.
-fn put_field(out: &mut [u8; 65536], n: usize, x: usize) -> usize
-    ensures { PutField x out.old n out.new result }
-{
-    let mut text = [0u8; 20];
-    let k = io::decimal(x as u64, &mut text);
-    let m = put_byte(out, n, b' ');
-    put(out, m, &text[..k])
-}
-
+// A digit in hex. A byte has two: `io::hex` writes a whole number to an array of 16.
 fn glyph(d: u8) -> u8
     requires { d < 16 }
     ensures { result ≡ hex_digit_ascii d }
@@ -56,274 +25,274 @@ fn glyph(d: u8) -> u8
     if d < 10 { b'0' + d } else { b'a' + (d - 10) }
 }
 
-// A byte in hex: two digits.
-fn put_pair(out: &mut [u8; 65536], n: usize, b: u8) -> usize
-    ensures { Put out.old n (last_digits 16 2 b) out.new result }
+// What the bracket f + 1 takes, if both of its places are known.
+fn taken(f: usize, known: u16, places: &[usize; 16]) -> Option<(usize, usize)>
+    requires { f < 8 }
+    ensures { option_of result ≡ pair_at known places.now f }
 {
-    let m = put_byte(out, n, glyph(b / 16));
-    put_byte(out, m, glyph(b % 16))
-}
-
-// The first k bytes of a slice in hex.
-fn put_hex(out: &mut [u8; 65536], n: usize, s: &[u8], k: usize) -> usize
-    ensures { Put out.old n (hex (take k s.now)) out.new result }
-{
-    let end = words::least(k, s.len());
-    let mut m = used(out, n);
-    let mut i = 0;
-    while i < end {
-        m = put_pair(out, m, s[i]);
-        i += 1;
+    if words::has(u64::from(known), f) && words::has(u64::from(known), 8 + f) {
+        return Some((places[f], places[8 + f]));
     }
-    m
+    None
 }
 
-// 'alike COUNT'
-pub fn alike(out: &mut [u8; 65536], n: usize, count: usize) -> usize
-    ensures printed { Printed 27 (AlikeLine count) out.old n out.new result }
-{
-    let word = put(out, n, b"alike");
-    let field = put_field(out, word, count);
-    put_byte(out, field, b'\n')
-}
-
-// 'unlike COUNT WITNESS' without its newline
-fn put_unlike(out: &mut [u8; 65536], n: usize, count: usize, length: usize, witness: &[u8]) -> usize
-    ensures { PutLine (room 28 (take length witness.now)) (Unended (UnlikeLine count (take length witness.now))) out.old n out.new result }
-{
-    let word = put(out, n, b"unlike");
-    let field = put_field(out, word, count);
-    let space = put_byte(out, field, b' ');
-    put_hex(out, space, witness, length)
-}
-
-// 'unlike COUNT WITNESS', the first `length` bytes of the buffer in hex
-pub fn unlike(out: &mut [u8; 65536], n: usize, count: usize, length: usize, witness: &[u8]) -> usize
-    ensures printed { Printed (room 29 (take length witness.now)) (UnlikeLine count (take length witness.now)) out.old n out.new result }
-{
-    let verdict = put_unlike(out, n, count, length, witness);
-    put_byte(out, verdict, b'\n')
-}
-
-// 'refused NUMBER PLACE'
-pub fn refused(out: &mut [u8; 65536], n: usize, number: u8, place: usize) -> usize
-    ensures printed { Printed 50 (RefusedLine number place) out.old n out.new result }
-{
-    let word = put(out, n, b"refused");
-    let first = put_field(out, word, number as usize);
-    let second = put_field(out, first, place);
-    put_byte(out, second, b'\n')
-}
-
-// ' greatest GREATEST', or ' no limit'
-fn put_limit(out: &mut [u8; 65536], n: usize, limited: bool, greatest: usize) -> usize
-    ensures { PutLine 30 (LimitText (cond limited (some greatest) none)) out.old n out.new result }
-{
-    if limited {
-        let word = put(out, n, b" greatest");
-        return put_field(out, word, greatest);
+// Answers come as single values: the types that hold them are of crates above this one.
+impl Output {
+    // Nothing waits.
+    pub fn new() -> Output
+        ensures empty { result ≡ record { bytes = replicate 65536 0; used = 0 } }
+    {
+        Output {
+            bytes: [0; SIZE],
+            used: 0,
+        }
     }
-    put(out, n, b" no limit")
-}
 
-// 'least LEAST greatest GREATEST', or 'least LEAST no limit'
-fn put_lengths(
-    out: &mut [u8; 65536],
-    n: usize,
-    least: usize,
-    limited: bool,
-    greatest: usize,
-) -> usize
-    ensures { PutLine 56 (LengthsText least (cond limited (some greatest) none)) out.old n out.new result }
-{
-    let word = put(out, n, b"least");
-    let first = put_field(out, word, least);
-    put_limit(out, first, limited, greatest)
-}
-
-// The same and a space, before another answer
-pub fn lengths(
-    out: &mut [u8; 65536],
-    n: usize,
-    least: usize,
-    limited: bool,
-    greatest: usize,
-) -> usize
-    ensures printed { Printed 57 (Ahead (LengthsText least (cond limited (some greatest) none))) out.old n out.new result }
-{
-    let text = put_lengths(out, n, least, limited, greatest);
-    put_byte(out, text, b' ')
-}
-
-// 'accepted PARTS LEAVES MEMBERS least LEAST greatest GREATEST', or 'no limit' at its end
-pub fn accepted(
-    out: &mut [u8; 65536],
-    n: usize,
-    parts: usize,
-    leaves: usize,
-    members: usize,
-    least: usize,
-    limited: bool,
-    greatest: usize,
-) -> usize
-    ensures printed { Printed 129 (AcceptedLine parts leaves members least (cond limited (some greatest) none)) out.old n out.new result }
-{
-    let word = put(out, n, b"accepted");
-    let first = put_field(out, word, parts);
-    let second = put_field(out, first, leaves);
-    let third = put_field(out, second, members);
-    let space = put_byte(out, third, b' ');
-    let rest = put_lengths(out, space, least, limited, greatest);
-    put_byte(out, rest, b'\n')
-}
-
-// 'none'
-pub fn none(out: &mut [u8; 65536], n: usize) -> usize
-    ensures printed { Appended out.old n none_line out.new result }
-{
-    put(out, n, b"none\n")
-}
-
-// 'greedy START END posix START END' without its newline
-fn put_spans(out: &mut [u8; 65536], n: usize, start: usize, greedy: usize, posix: usize) -> usize
-    ensures { PutLine 96 (Unended (SpansLine start greedy posix)) out.old n out.new result }
-{
-    let first = put(out, n, b"greedy");
-    let from = put_field(out, first, start);
-    let short = put_field(out, from, greedy);
-    let second = put(out, short, b" posix");
-    let again = put_field(out, second, start);
-    put_field(out, again, posix)
-}
-
-// 'greedy START END posix START END'
-pub fn spans(out: &mut [u8; 65536], n: usize, start: usize, greedy: usize, posix: usize) -> usize
-    ensures printed { Printed 97 (SpansLine start greedy posix) out.old n out.new result }
-{
-    let both = put_spans(out, n, start, greedy, posix);
-    put_byte(out, both, b'\n')
-}
-
-// A space and '-', or the start and the end.
-fn put_bracket(out: &mut [u8; 65536], n: usize, here: bool, start: usize, end: usize) -> usize
-    ensures { PutPair (cond here (some (start, end)) none) out.old n out.new result }
-{
-    if here {
-        let from = put_field(out, n, start);
-        return put_field(out, from, end);
+    // The bytes of a slice, as far as they fit.
+    fn put(&mut self, s: &[u8])
+        ensures { Adds self.old s.now self.new }
+    {
+        let start = self.used.min(SIZE);
+        let n = s.len().min(SIZE - start);
+        self.bytes[start..start + n].copy_from_slice(&s[..n]);
+        self.used = start + n;
     }
-    put(out, n, b" -")
-}
 
-// What the first `count` brackets take; there are at most eight.
-fn put_brackets(
-    out: &mut [u8; 65536],
-    n: usize,
-    count: usize,
-    known: u16,
-    places: &[usize; 16],
-) -> usize
-    ensures { PutPairs (min count 8) known places.now out.old n out.new result }
-{
-    let end = words::least(count, 8);
-    let bits = known as u64;
-    let mut m = used(out, n);
-    let mut f = 0;
-    while f < end {
-        let here = words::both(words::has(bits, f), words::has(bits, 8 + f));
-        m = put_bracket(out, m, here, places[f], places[8 + f]);
-        f += 1;
+    // What counts as in use is in the array, also where nothing is put.
+    fn settle(&mut self)
+        ensures { Adds self.old [] self.new }
+    {
+        self.used = self.used.min(SIZE);
     }
-    m
-}
 
-// 'greedy START END fields START END ..', where '-' stands for a bracket that takes nothing
-pub fn fields(
-    out: &mut [u8; 65536],
-    n: usize,
-    start: usize,
-    end: usize,
-    count: usize,
-    known: u16,
-    places: &[usize; 16],
-) -> usize
-    ensures printed { Printed 392 (FieldsLine start end (pairs_of (min count 8) known places.now)) out.old n out.new result }
-{
-    let first = put(out, n, b"greedy");
-    let from = put_field(out, first, start);
-    let to = put_field(out, from, end);
-    let second = put(out, to, b" fields");
-    let rest = put_brackets(out, second, count, known, places);
-    put_byte(out, rest, b'\n')
-}
-
-// 'unlike COUNT WITNESS greedy START END posix START END readable LINE': the verdict, how the witness is cut, and the first `length` bytes of its readable form in hex
-pub fn explained<'a>(
-    out: &mut [u8; 65536],
-    n: usize,
-    count: usize,
-    length: usize,
-    witness: &'a [u8],
-    start: usize,
-    greedy: usize,
-    posix: usize,
-    readable: &'a [u8],
-) -> usize
-    ensures printed { Printed (room (room 136 (take length witness.now)) (take length readable.now)) (ExplainedLine count (take length witness.now) start greedy posix (take length readable.now)) out.old n out.new result }
-{
-    let verdict = put_unlike(out, n, count, length, witness);
-    let gap = put_byte(out, verdict, b' ');
-    let both = put_spans(out, gap, start, greedy, posix);
-    let word = put(out, both, b" readable ");
-    let line = put_hex(out, word, readable, length);
-    put_byte(out, line, b'\n')
-}
-
-// 'looks LOOKS comparisons COMPARISONS ', before a verdict's line
-pub fn looking(out: &mut [u8; 65536], n: usize, looks: usize, comparisons: usize) -> usize
-    ensures printed { Printed 60 (LookingText looks comparisons) out.old n out.new result }
-{
-    let word = put(out, n, b"looks");
-    let first = put_field(out, word, looks);
-    let next = put(out, first, b" comparisons");
-    let second = put_field(out, next, comparisons);
-    put_byte(out, second, b' ')
-}
-
-// Numbers, each after a space.
-fn put_numbers(out: &mut [u8; 65536], n: usize, numbers: &[u8]) -> usize
-    ensures { PutFields numbers.now out.old n out.new result }
-{
-    let mut m = used(out, n);
-    let mut i = 0;
-    while i < numbers.len() {
-        m = put_field(out, m, words::wide(numbers[i]));
-        i += 1;
+    // A word, a space and a number in decimal.
+    fn put_field(&mut self, word: &[u8], x: usize)
+        ensures { PutField word.now x self.old self.new }
+    {
+        let mut text = [0u8; 20];
+        let k = io::decimal(x as u64, &mut text);
+        self.put(word);
+        self.put(b" ");
+        self.put(&text[..k]);
     }
-    m
-}
 
-// 'groups NUMBER ..', the number of each byte's group
-pub fn groups(out: &mut [u8; 65536], n: usize, numbers: &[u8; 256]) -> usize
-    ensures printed { Printed 5383 (GroupsLine numbers.now) out.old n out.new result }
-{
-    let word = put(out, n, b"groups");
-    let fields = put_numbers(out, word, numbers);
-    put_byte(out, fields, b'\n')
-}
+    // A slice in hex: two digits for each byte.
+    fn put_hex(&mut self, s: &[u8])
+        ensures { Adds self.old (hex s.now) self.new }
+    {
+        self.settle();
+        for &b in s {
+            self.put(&[glyph(b / 16), glyph(b % 16)]);
+        }
+    }
 
-// The bytes of a slice in hex, on a line.
-pub fn bytes(out: &mut [u8; 65536], n: usize, s: &[u8]) -> usize
-    ensures printed { Appended out.old n (hex s.now ++ (10 ∷ [])) out.new result }
-{
-    let pairs = put_hex(out, n, s, s.len());
-    put_byte(out, pairs, b'\n')
-}
+    // 'alike COUNT'
+    pub fn alike(&mut self, count: usize)
+        ensures printed { Prints 27 (AlikeLine count) self.old self.new }
+    {
+        self.put_field(b"alike", count);
+        self.put(b"\n");
+    }
 
-// The bytes of a slice as they are, on a line.
-pub fn text(out: &mut [u8; 65536], n: usize, s: &[u8]) -> usize
-    ensures printed { Appended out.old n (s.now ++ (10 ∷ [])) out.new result }
-{
-    let all = put(out, n, s);
-    put_byte(out, all, b'\n')
+    // 'unlike COUNT WITNESS' without its newline
+    fn put_unlike(&mut self, count: usize, length: usize, witness: &[u8])
+        ensures { PutLine (room 28 (take length witness.now)) (Unended (UnlikeLine count (take length witness.now))) self.old self.new }
+    {
+        self.put_field(b"unlike", count);
+        self.put(b" ");
+        self.put_hex(&witness[..length.min(witness.len())]);
+    }
+
+    // 'unlike COUNT WITNESS', the first `length` bytes of the buffer in hex. The buffer and the length come as the checker hands them over: that the line has no byte more is promised here.
+    pub fn unlike(&mut self, count: usize, length: usize, witness: &[u8])
+        ensures printed { Prints (room 29 (take length witness.now)) (UnlikeLine count (take length witness.now)) self.old self.new }
+    {
+        self.put_unlike(count, length, witness);
+        self.put(b"\n");
+    }
+
+    // 'refused NUMBER PLACE'
+    pub fn refused(&mut self, number: u8, place: usize)
+        ensures printed { Prints 50 (RefusedLine number place) self.old self.new }
+    {
+        self.put_field(b"refused", usize::from(number));
+        self.put_field(b"", place);
+        self.put(b"\n");
+    }
+
+    // ' greatest GREATEST', or ' no limit'
+    fn put_limit(&mut self, greatest: Option<usize>)
+        ensures { PutLine 30 (LimitText (option_of greatest)) self.old self.new }
+    {
+        match greatest {
+            Some(x) => self.put_field(b" greatest", x),
+            None => self.put(b" no limit"),
+        }
+    }
+
+    // 'least LEAST greatest GREATEST', or 'least LEAST no limit'
+    fn put_lengths(&mut self, least: usize, greatest: Option<usize>)
+        ensures { PutLine 56 (LengthsText least (option_of greatest)) self.old self.new }
+    {
+        self.put_field(b"least", least);
+        self.put_limit(greatest);
+    }
+
+    // The same and a space, before another answer
+    pub fn lengths(&mut self, least: usize, greatest: Option<usize>)
+        ensures printed { Prints 57 (Ahead (LengthsText least (option_of greatest))) self.old self.new }
+    {
+        self.put_lengths(least, greatest);
+        self.put(b" "); // the line goes on
+    }
+
+    // 'accepted PARTS LEAVES MEMBERS least LEAST greatest GREATEST', or 'no limit' at its end
+    pub fn accepted(
+        &mut self,
+        parts: usize,
+        leaves: usize,
+        members: usize,
+        least: usize,
+        greatest: Option<usize>,
+    )
+        ensures printed { Prints 129 (AcceptedLine parts leaves members least (option_of greatest)) self.old self.new }
+    {
+        self.put_field(b"accepted", parts);
+        self.put_field(b"", leaves);
+        self.put_field(b"", members);
+        self.put(b" ");
+        self.put_lengths(least, greatest);
+        self.put(b"\n");
+    }
+
+    // 'none'
+    pub fn none(&mut self)
+        ensures printed { Adds self.old none_line self.new }
+    {
+        self.put(b"none\n");
+    }
+
+    // 'greedy START END posix START END' without its newline
+    fn put_spans(&mut self, start: usize, greedy: usize, posix: usize)
+        ensures { PutLine 96 (Unended (SpansLine start greedy posix)) self.old self.new }
+    {
+        self.put_field(b"greedy", start);
+        self.put_field(b"", greedy);
+        self.put_field(b" posix", start);
+        self.put_field(b"", posix);
+    }
+
+    // 'greedy START END posix START END'
+    pub fn spans(&mut self, start: usize, greedy: usize, posix: usize)
+        ensures printed { Prints 97 (SpansLine start greedy posix) self.old self.new }
+    {
+        self.put_spans(start, greedy, posix);
+        self.put(b"\n");
+    }
+
+    // A space and '-', or the start and the end.
+    fn put_bracket(&mut self, taken: Option<(usize, usize)>)
+        ensures { PutPair (option_of taken) self.old self.new }
+    {
+        match taken {
+            Some((start, end)) => {
+                self.put_field(b"", start);
+                self.put_field(b"", end);
+            }
+            None => self.put(b" -"),
+        }
+    }
+
+    // What the first `count` brackets take; there are at most eight.
+    fn put_brackets(&mut self, count: usize, known: u16, places: &[usize; 16])
+        ensures { PutPairs (min count 8) known places.now self.old self.new }
+    {
+        self.settle();
+        for f in 0..count.min(8) {
+            self.put_bracket(taken(f, known, places));
+        }
+    }
+
+    // 'greedy START END fields START END ..', where '-' stands for a bracket that takes nothing. A C caller keeps a line's fields as a mask and an array, and so they come here.
+    pub fn fields(
+        &mut self,
+        start: usize,
+        end: usize,
+        count: usize,
+        known: u16,
+        places: &[usize; 16],
+    )
+        ensures printed { Prints 392 (FieldsLine start end (pairs_of (min count 8) known places.now)) self.old self.new }
+    {
+        self.put_field(b"greedy", start);
+        self.put_field(b"", end);
+        self.put(b" fields");
+        self.put_brackets(count, known, places);
+        self.put(b"\n");
+    }
+
+    // 'unlike COUNT WITNESS greedy START END posix START END readable LINE': the verdict, how the witness is cut, and the first `length` bytes of its readable form in hex
+    pub fn explained<'a>(
+        &mut self,
+        count: usize,
+        length: usize,
+        witness: &'a [u8],
+        start: usize,
+        greedy: usize,
+        posix: usize,
+        readable: &'a [u8],
+    )
+        ensures printed { Prints (room (room 136 (take length witness.now)) (take length readable.now)) (ExplainedLine count (take length witness.now) start greedy posix (take length readable.now)) self.old self.new }
+    {
+        self.put_unlike(count, length, witness);
+        self.put(b" ");
+        self.put_spans(start, greedy, posix); // of the witness
+        self.put(b" readable ");
+        self.put_hex(&readable[..length.min(readable.len())]);
+        self.put(b"\n");
+    }
+
+    // 'looks LOOKS comparisons COMPARISONS ', before a verdict's line
+    pub fn looking(&mut self, looks: usize, comparisons: usize)
+        ensures printed { Prints 60 (LookingText looks comparisons) self.old self.new }
+    {
+        self.put_field(b"looks", looks);
+        self.put_field(b" comparisons", comparisons);
+        self.put(b" ");
+    }
+
+    // Numbers, each after a space.
+    fn put_numbers(&mut self, numbers: &[u8])
+        ensures { PutFields numbers.now self.old self.new }
+    {
+        self.settle();
+        for &x in numbers {
+            self.put_field(b"", usize::from(x));
+        }
+    }
+
+    // 'groups NUMBER ..', the number of each byte's group
+    pub fn groups(&mut self, numbers: &[u8; 256])
+        ensures printed { Prints 5383 (GroupsLine numbers.now) self.old self.new }
+    {
+        self.put(b"groups");
+        self.put_numbers(numbers);
+        self.put(b"\n");
+    }
+
+    // The bytes of a slice in hex, on a line.
+    pub fn bytes(&mut self, s: &[u8])
+        ensures printed { Adds self.old (hex s.now ++ (10 ∷ [])) self.new }
+    {
+        self.put_hex(s);
+        self.put(b"\n");
+    }
+
+    // The bytes of a slice as they are, on a line.
+    pub fn text(&mut self, s: &[u8])
+        ensures printed { Adds self.old (s.now ++ (10 ∷ [])) self.new }
+    {
+        self.put(s);
+        self.put(b"\n");
+    }
 }

@@ -1,104 +1,94 @@
 -- The entries that a text in hex begins with, a pair of digits at a time.
 -- Assumes nothing.
-use mathlib.Core.Path.{◌≡◌, refl, sym, ap, ◌∙◌}
-use mathlib.Core.Bool.{Bool, true, false, ◌&&◌, cond}
-use mathlib.Core.List.{List, [], ◌∷◌, ◌++◌, append_assoc, append-nil}
-use Prim.Native.Nat.{ℕ, suc, ◌+◌, ◌*◌, ◌-◌, ◌≤◌, ◌<◌, min}
-use native.Mathlib.Omega.{arith}
-use native.Mathlib.Numerals.{add-one}
-use lib.ListN.{length, take, drop, get_or, set, length-take, length-drop}
-use lib.Seq.{drop-cons, take-suc-set, length-take-le, take-nil}
-use Rattle.queries.specs.Hex.{is_hex, hex_value, unhex, FromHex}
+use Rattle.std.specs.Prelude.{None, Some}
+use Rattle.std.proofs.Common.{◌≡◌, ℕ, suc, ◌+◌, ◌*◌, ◌-◌, ◌≤◌, ◌<◌, Bool, true, false, ◌&&◌, cond, List, [], ◌∷◌, ◌++◌, length, get_or, take, drop, set, replicate, refl, sym, ap, ◌∙◌, append_assoc, append-nil, arith, length-append}
+use Rattle.std.proofs.lemmas.Option.{cond_some, none-some}
+use lib.Seq.{take_all, set_at, append_snoc, take-nil}
+use Rattle.queries.specs.Hex.{is_hex, hex_value, digit_of, unhex, table_of, entries_of}
+use Rattle.queries.specs.declared.Table.{Table}
 
--- A table holds the first n entries, and the text from the place before i on has the rest.
-abbrev pub Filled : List ℕ → List ℕ → ℕ → ℕ → Type 0
-Filled text table n i = take n table ++ take (512 - n) (unhex (drop (i - 1) text)) ≡ take 512 (unhex text)
+-- A table holds these entries and zeros, and the rest of the text has the others.
+pub record Filled (text rest : List ℕ) (t : Table) : Type 0 where
+  pub done : List ℕ
+  pub holds : t.entries ≡ done ++ replicate (512 - t.count) 0
+  pub number : length done ≡ t.count
+  pub few : t.count ≤ 512
+  pub others : done ++ take (512 - t.count) (unhex rest) ≡ entries_of text
 
--- The pair of digits whose second one is at the place i, and what follows.
-pair : (s : List ℕ) (i : ℕ) → 0 < i → i < length s → drop (i - 1) s ≡ get_or s (i - 1) 0 ∷ get_or s i 0 ∷ drop (i + 2 - 1) s
-pair s i h j =
-    let a = get_or s (i - 1) 0 in
-    let k : i - 1 < length s = omega arith in
-    let e : suc (i - 1) ≡ i = omega arith in
-    let f : suc i ≡ i + 2 - 1 = omega arith in
-    drop-cons s (i - 1) 0 k
-    ∙ ap (λ x. a ∷ drop x s) e
-    ∙ ap (λ l. a ∷ l) (drop-cons s i 0 j)
-    ∙ ap (λ x. a ∷ get_or s i 0 ∷ drop x s) f
+-- The first two bytes, and what follows them.
+pair : (s : List ℕ) → 2 ≤ length s → s ≡ get_or s 0 0 ∷ get_or s 1 0 ∷ take (length s - 2) (drop 2 s)
+pair [] h = absurd (omega arith)
+pair (a ∷ []) h = absurd (omega arith)
+pair (a ∷ b ∷ s) h = ap (λ l. a ∷ b ∷ l) (sym (take_all (length (a ∷ b ∷ s) - 2) s (omega arith)))
 
-both : (a b : Bool) (x y : List ℕ) → a ≡ true → b ≡ true → cond (a && b) x y ≡ x
-both a b x y p q = rw (p, q) refl
+no_digit : (b : ℕ) → digit_of b ≡ None → is_hex b ≡ false
+no_digit b = go (is_hex b)
+  where
+    go : (t : Bool) → cond t (Some (hex_value b)) None ≡ None → t ≡ false
+    go true e = absurd (none-some _ (sym e))
+    go false e = refl
 
-not_first : (a b : Bool) (x y : List ℕ) → a ≡ false → cond (a && b) x y ≡ y
-not_first a b x y p = rw p refl
+not_second : (t : Bool) (x y : List ℕ) → cond (t && false) x y ≡ y
+not_second true x y = refl
+not_second false x y = refl
 
-not_second : (a b : Bool) (x y : List ℕ) → b ≡ false → cond (a && b) x y ≡ y
-not_second true b x y p = rw p refl
-not_second false b x y p = refl
-
-short : (s : List ℕ) → length s ≤ 1 → unhex s ≡ []
-unfolding unhex
-short [] h = refl
-short (a ∷ []) h = refl
-short (a ∷ b ∷ s) h = absurd (omega arith)
-
-module _ (text : List ℕ) (i : ℕ) (h : 0 < i) where
-  -- No pair is left, or a byte of the next one is no digit.
-  pub no_pair : length text ≤ i → unhex (drop (i - 1) text) ≡ []
-  no_pair j =
-      let e : length (drop (i - 1) text) ≡ length text - (i - 1) = length-drop (i - 1) text in
-      short (drop (i - 1) text) (omega arith)
-
-  pub no_first : i < length text → is_hex (get_or text (i - 1) 0) ≡ false → unhex (drop (i - 1) text) ≡ []
+module _ (s : List ℕ) where
+  -- The text is too short, or one of its first two bytes is no digit.
+  pub short : length s < 2 → unhex s ≡ []
   unfolding unhex
-  no_first j p = ap unhex (pair text i h j) ∙ not_first (is_hex (get_or text (i - 1) 0)) (is_hex (get_or text i 0)) _ _ p
+  short h = go s h
+    where
+      go : (l : List ℕ) → length l < 2 → unhex l ≡ []
+      go [] h = refl
+      go (a ∷ []) h = refl
+      go (a ∷ b ∷ l) h = absurd (omega arith)
 
-  pub no_second : i < length text → is_hex (get_or text i 0) ≡ false → unhex (drop (i - 1) text) ≡ []
+  pub no_first : 2 ≤ length s → digit_of (get_or s 0 0) ≡ None → unhex s ≡ []
   unfolding unhex
-  no_second j p = ap unhex (pair text i h j) ∙ not_second (is_hex (get_or text (i - 1) 0)) (is_hex (get_or text i 0)) _ _ p
+  no_first h e = ap unhex (pair s h) ∙ rw (no_digit (get_or s 0 0) e) refl
 
-  next_pair_lem : i < length text → is_hex (get_or text (i - 1) 0) ≡ true → is_hex (get_or text i 0) ≡ true
-      → unhex (drop (i - 1) text) ≡ (16 * hex_value (get_or text (i - 1) 0) + hex_value (get_or text i 0)) ∷ unhex (drop (i + 2 - 1) text)
+  pub no_second : 2 ≤ length s → digit_of (get_or s 1 0) ≡ None → unhex s ≡ []
   unfolding unhex
-  next_pair_lem j p q = ap unhex (pair text i h j) ∙ both (is_hex (get_or text (i - 1) 0)) (is_hex (get_or text i 0)) _ _ p q
+  no_second h e = ap unhex (pair s h) ∙ rw (no_digit (get_or s 1 0) e) (not_second (is_hex (get_or s 0 0)) _ _)
 
--- Nothing is filled yet.
-pub unfilled : (text table : List ℕ) → Filled text table 0 1
-unfilled text table = refl
+  module _ {x y : ℕ} (h : 2 ≤ length s) (p : digit_of (get_or s 0 0) ≡ Some x) (q : digit_of (get_or s 1 0) ≡ Some y) where
+    next_entry : unhex s ≡ (16 * x + y) ∷ unhex (take (length s - 2) (drop 2 s))
+    unfolding unhex
+    next_entry =
+        let (c, d) = cond_some (is_hex (get_or s 0 0)) (hex_value (get_or s 0 0)) x p in
+        let (e, f) = cond_some (is_hex (get_or s 1 0)) (hex_value (get_or s 1 0)) y q in
+        ap unhex (pair s h) ∙ rw (c, e, d, f) refl
 
--- One entry more.
-pub fill_one : (text table : List ℕ) (n i v : ℕ) → 0 < i → i < length text → n < 512 → length table ≡ 512
-    → is_hex (get_or text (i - 1) 0) ≡ true → is_hex (get_or text i 0) ≡ true → v ≡ 16 * hex_value (get_or text (i - 1) 0) + hex_value (get_or text i 0)
-    → Filled text table n i → Filled text (set table n v) (n + 1) (i + 2)
-fill_one text table n i v h j k l p q e f =
-    let u = unhex (drop (i + 2 - 1) text) in
-    let m : n < length table = omega arith in
-    let r : 512 - n ≡ suc (512 - (n + 1)) = omega arith in
-    let more : unhex (drop (i - 1) text) ≡ v ∷ u = next_pair_lem text i h j p q ∙ ap (λ x. x ∷ u) (sym e) in
-    ap (λ x. take x (set table n v) ++ take (512 - (n + 1)) u) (add-one n)
-    ∙ ap (λ x. x ++ take (512 - (n + 1)) u) (take-suc-set table n v m)
-    ∙ append_assoc (take n table) (v ∷ []) (take (512 - (n + 1)) u)
-    ∙ ap (λ x. take n table ++ take x (v ∷ u)) (sym r)
-    ∙ ap (λ x. take n table ++ take (512 - n) x) (sym more)
-    ∙ f
+    -- One entry more.
+    pub fill_one : {text : List ℕ} {t : Table} → Filled text s t → t.count < 512
+        → Filled text (take (length s - 2) (drop 2 s)) (record { entries = set t.entries t.count (16 * x + y); count = t.count + 1 })
+    fill_one {text} {t} f l =
+        let n = t.count in
+        let v = 16 * x + y in
+        let u = unhex (take (length s - 2) (drop 2 s)) in
+        let k : 512 - n ≡ suc (512 - (n + 1)) = omega arith in
+        record {
+          done = f.done ++ (v ∷ []);
+          holds =
+              ap (λ l. set l n v) (f.holds ∙ ap (λ i. f.done ++ replicate i 0) k)
+              ∙ set_at f.done 0 (replicate (512 - (n + 1)) 0) v n f.number
+              ∙ sym (append_snoc f.done v (replicate (512 - (n + 1)) 0));
+          number = length-append f.done (v ∷ []) ∙ ap (λ i. i + 1) f.number;
+          few = omega arith;
+          others =
+              append_assoc f.done (v ∷ []) (take (512 - (n + 1)) u)
+              ∙ ap (λ i. f.done ++ take i (v ∷ u)) (sym k)
+              ∙ ap (λ l. f.done ++ take (512 - n) l) (sym next_entry)
+              ∙ f.others;
+        }
 
--- The table is full, or the text has no entry more.
-done : (text table : List ℕ) (n i : ℕ) → n ≤ 512 → length table ≡ 512 → take (512 - n) (unhex (drop (i - 1) text)) ≡ [] → Filled text table n i → FromHex text table n
-done text table n i h l e f =
-    let entries : take n table ≡ take 512 (unhex text) = sym (ap (λ x. take n table ++ x) e ∙ append-nil (take n table)) ∙ f in
-    let m : n ≤ length table = omega arith in
-    record { entries = entries; number = sym (length-take-le n table m) ∙ ap length entries }
+-- No entry is left, or there is no room for it.
+all : {text rest : List ℕ} {t : Table} → Filled text rest t → take (512 - t.count) (unhex rest) ≡ [] → t ≡ table_of (entries_of text)
+all {text} {rest} {t} f e =
+    let d : f.done ≡ entries_of text = sym (append-nil f.done) ∙ ap (λ l. f.done ++ l) (sym e) ∙ f.others in
+    let k : t.count ≡ length (entries_of text) = sym f.number ∙ ap length d in
+    let h : t.entries ≡ entries_of text ++ replicate (512 - length (entries_of text)) 0 = f.holds ∙ ap (λ l. l ++ replicate (512 - t.count) 0) d ∙ ap (λ i. entries_of text ++ replicate (512 - i) 0) k in
+    λ i. record { entries = h i; count = k i }
 
-pub full : (text table : List ℕ) (n i : ℕ) → n ≤ 512 → 512 ≤ n → length table ≡ 512 → Filled text table n i → FromHex text table n
-full text table n i h k l f =
-    let z : 512 - n ≡ 0 = omega arith in
-    done text table n i h l (ap (λ x. take x (unhex (drop (i - 1) text))) z) f
-
-pub no_more : (text table : List ℕ) (n i : ℕ) → n ≤ 512 → length table ≡ 512 → unhex (drop (i - 1) text) ≡ [] → Filled text table n i → FromHex text table n
-no_more text table n i h l e f = done text table n i h l (ap (λ x. take (512 - n) x) e ∙ take-nil (512 - n)) f
-
--- No more than it has room for.
-pub few : {text new : List ℕ} {n : ℕ} → FromHex text new n → n ≤ 512
-few {text} {n = n} f =
-    let e : n ≡ min 512 (length (unhex text)) = f.number ∙ length-take 512 (unhex text) in
-    omega arith
+pub no_more : {text rest : List ℕ} {t : Table} → Filled text rest t → unhex rest ≡ [] → t ≡ table_of (entries_of text)
+no_more {t = t} f e = all f (ap (λ l. take (512 - t.count) l) e ∙ take-nil (512 - t.count))

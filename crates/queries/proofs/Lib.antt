@@ -1,5 +1,2 @@
--- The digits of a table in hex, its entries, the tests of words, and which table is loaded.
-mod Digits
+-- The entries of a table in hex.
 mod Entries
-mod Words
-mod Loadings

@@ -1,7 +1,8 @@
 -- A table of named sets as the front end hands it over: in lower-case hex, two digits for an entry.
 -- Assumes nothing.
-use Rattle.std.specs.Prelude.{◌≡◌, ℕ, ◌+◌, ◌*◌, ◌-◌, Bool, ◌&&◌, ◌||◌, cond, List, [], ◌∷◌, length, take}
+use Rattle.std.specs.Prelude.{ℕ, ◌+◌, ◌*◌, ◌-◌, Bool, ◌&&◌, ◌||◌, cond, List, [], ◌∷◌, ◌++◌, length, take, replicate, Option, None, Some}
 use Rattle.grammar.specs.Sets.{spans}
+use Rattle.queries.specs.declared.Table.{Table}
 
 abbrev pub is_hex : ℕ → Bool
 is_hex b = spans 48 57 b || spans 97 102 b
@@ -15,7 +16,14 @@ unhex [] = []
 unhex (a ∷ []) = []
 unhex (a ∷ b ∷ s) = cond (is_hex a && is_hex b) ((16 * hex_value a + hex_value b) ∷ unhex s) []
 
--- An array of 512 bytes begins with the first n of them, all that it has room for.
-pub record FromHex (text new : List ℕ) (n : ℕ) : Type 0 where
-  pub entries : take n new ≡ take 512 (unhex text)
-  pub number : n ≡ length (take 512 (unhex text))
+-- What a digit counts; there is no other.
+abbrev pub digit_of : ℕ → Option ℕ
+digit_of b = cond (is_hex b) (Some (hex_value b)) None
+
+-- A table of these entries, with zeros after the last.
+abbrev pub table_of : List ℕ → Table
+table_of l = record { entries = l ++ replicate (512 - length l) 0; count = length l }
+
+-- The entries that a text begins with, all that a table has room for.
+abbrev pub entries_of : List ℕ → List ℕ
+entries_of s = take 512 (unhex s)

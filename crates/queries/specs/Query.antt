@@ -1,7 +1,7 @@
 -- What the first line of a query says: the table of named sets that is loaded, and what is asked.
 -- Assumes nothing.
-use Rattle.std.specs.Prelude.{◌≡◌, ℕ, ◌+◌, ◌*◌, Bool, true, false, ◌&&◌, cond, List, [], ◌∷◌, length, take, drop, eqb}
-use Rattle.queries.specs.Hex.{unhex}
+use Rattle.std.specs.Prelude.{ℕ, ◌+◌, ◌*◌, Bool, true, false, ◌&&◌, cond, List, [], ◌∷◌, length, drop, eqb}
+use Rattle.queries.specs.Hex.{table_of, entries_of}
 use Rattle.queries.specs.declared.Loading.{Loading}
 use Rattle.queries.specs.declared.Loading.TheVariants.{Fixed, Own, Broken}
 use Rattle.queries.specs.declared.Query.{Query}
@@ -55,25 +55,10 @@ query_of s at =
     (cond (starts s fields_word) (Fields (at + 7))
     (word_of s))
 
--- The entries in hex after 'sets ', as many as an array of 512 bytes has room for.
-abbrev pub own_entries : List ℕ → List ℕ
-own_entries s = take 512 (unhex (drop 5 s))
-
--- With n entries: a space follows them, and then the word; else it is no table.
-abbrev pub own_of : List ℕ → ℕ → Loading
-own_of s n = cond (starts (drop (5 + 2 * n) s) (32 ∷ [])) (Own n (6 + 2 * n)) Broken
+-- With these entries in hex after 'sets ': a space follows them, and then the word; else it is no table.
+abbrev pub own_of : List ℕ → List ℕ → Loading
+own_of s entries = cond (starts (drop (5 + 2 * length entries) s) (32 ∷ [])) (Own (table_of entries) (6 + 2 * length entries)) Broken
 
 -- The table that the line s loads.
 abbrev pub loading_of : List ℕ → Loading
-loading_of s = cond (starts s sets_word) (own_of s (length (own_entries s))) Fixed
-
--- The array begins with the table's entries. Where the line has no table of its own it may hold anything.
-abbrev pub Holds : List ℕ → List ℕ → Loading → Type 0
-Holds s new Fixed = Unit {0}
-Holds s new (Own n at) = take n new ≡ own_entries s
-Holds s new Broken = Unit {0}
-
--- The table that is loaded, and the array.
-pub record Loads (s : List ℕ) (x : Loading) (new : List ℕ) : Type 0 where
-  pub loading : x ≡ loading_of s
-  pub entries : Holds s new x
+loading_of s = cond (starts s sets_word) (own_of s (entries_of (drop 5 s))) Fixed

@@ -2,25 +2,32 @@
 // and a space. The word that follows says what is asked.
 #![tactic(auto)]
 
-ghost use Rattle.std.specs.Prelude.{◌≡◌, true, drop};
-ghost use Rattle.queries.specs.Hex.{is_hex, hex_value, FromHex};
-ghost use Rattle.queries.specs.Query.{starts, is_word, word_of, query_of, Loads};
+ghost use Rattle.std.specs.Prelude.{◌≡◌, drop, take};
+ghost use Rattle.queries.specs.Hex.{digit_of, table_of, entries_of};
+ghost use Rattle.queries.specs.Query.{query_of, loading_of};
 
 // No line that is kept has more entries in hex.
 pub const ENTRIES: usize = 512;
+
+// A line's own table: so many entries, with zeros after the last.
+#[derive(Clone, Copy)]
+pub struct Table {
+    pub entries: [u8; ENTRIES],
+    pub count: usize,
+}
 
 // Which table is loaded.
 #[derive(Clone, Copy)]
 pub enum Loading {
     Fixed,
-    // the line's own, with so many entries, and where the word stands
-    Own { entries: usize, at: usize },
+    // the line's own, and where the word stands
+    Own { table: Table, at: usize },
     // neither: what follows 'sets ' is not a table and a space
     Broken,
 }
 
 // What is asked.
-#[derive(Clone, Copy)]
+#[derive(Clone, Copy, PartialEq, Eq)]
 pub enum Query {
     // both spans of order lines; where the pattern stands
     Spans { at: usize },
@@ -37,109 +44,91 @@ pub enum Query {
     Unknown,
 }
 
-// A hex digit: 0 to 9 or a to f.
-fn is_hex(b: u8) -> bool
-    ensures { result ≡ is_hex b }
+impl Table {
+    pub fn as_slice(&self) -> &[u8]
+        ensures entries { result.now ≡ take self.now.count self.now.entries }
+    {
+        &self.entries[..self.count.min(ENTRIES)]
+    }
+}
+
+// What a hex digit counts: 0 to 9 or a to f. `library_calls`, a test of the library, reads hex by its own rule: there any other byte counts 0.
+fn digit(b: u8) -> Option<u8>
+    ensures { result ≡ digit_of b }
 {
     match b {
-        b'0'..=b'9' => true,
-        b'a'..=b'f' => true,
-        _ => false,
+        b'0'..=b'9' => Some(b - b'0'),
+        b'a'..=b'f' => Some(b - b'a' + 10),
+        _ => None,
     }
 }
 
-// What it counts.
-fn value(b: u8) -> u8
-    requires { is_hex b ≡ true }
-    ensures { result ≡ hex_value b }
+// The entries that a text begins with, as many as there is room for.
+fn from_hex(text: &[u8]) -> Table
+    ensures { result ≡ table_of (entries_of text.now) }
 {
-    if b <= b'9' {
-        return b - b'0';
-    }
-    b - b'a' + 10
-}
-
-// The entries that a text begins with: how many.
-fn from_hex(text: &[u8], table: &mut [u8; ENTRIES]) -> usize
-    ensures { FromHex text.now table.new result }
-{
-    let end = words::length_of(table);
-    let mut n = 0;
-    let mut i = 1;
-    while i < text.len() && n < end {
-        if !is_hex(text[i - 1]) {
-            return n;
+    let mut table = Table {
+        entries: [0; ENTRIES],
+        count: 0,
+    };
+    let mut rest = text;
+    while let [a, b, more @ ..] = rest {
+        let Some(x) = digit(*a) else {
+            return table;
+        };
+        let Some(y) = digit(*b) else {
+            return table;
+        };
+        if table.count == ENTRIES {
+            return table;
         }
-        if !is_hex(text[i]) {
-            return n;
-        }
-        table[n] = 16 * value(text[i - 1]) + value(text[i]);
-        n += 1;
-        i += 2;
+        table.entries[table.count] = 16 * x + y;
+        table.count += 1;
+        rest = more;
     }
-    n
+    table
 }
 
-// Whether the text goes on with the word at a place,
-fn starts_at<'a>(text: &'a [u8], at: usize, word: &'a [u8]) -> bool
-    ensures { result ≡ starts (drop at text.now) word.now }
+// What stands at a place: nothing past the end. As in lines, which this crate does not use.
+fn from(text: &[u8], at: usize) -> &[u8]
+    ensures { result.now ≡ drop at text.now }
 {
-    lines::begins_with(lines::past_first(text, at), word)
+    &text[at.min(text.len())..]
 }
 
-// and ends with it.
-fn is_word<'a>(text: &'a [u8], at: usize, word: &'a [u8]) -> bool
-    ensures { result ≡ is_word (drop at text.now) word.now }
+// The table that the line begins with.
+pub fn load(text: &[u8]) -> Loading
+    ensures loads { result ≡ loading_of text.now }
 {
-    let rest = lines::past_first(text, at);
-    rest.len() == word.len() && lines::begins_with(rest, word)
-}
-
-// The table that the line begins with, put at the start of the array.
-pub fn load(text: &[u8], table: &mut [u8; ENTRIES]) -> Loading
-    ensures loads { Loads text.now result table.new }
-{
-    if !starts_at(text, 0, b"sets ") {
+    if !text.starts_with(b"sets ") {
         return Loading::Fixed;
     }
-    let n = from_hex(lines::past_first(text, 5), table);
-    if !starts_at(text, 5 + 2 * n, b" ") {
+    let table = from_hex(&text[5..]);
+    if !from(text, 5 + 2 * table.count).starts_with(b" ") {
         return Loading::Broken;
     }
     Loading::Own {
-        entries: n,
-        at: 6 + 2 * n,
+        table,
+        at: 6 + 2 * table.count,
     }
-}
-
-// What is asked by the word at a place that ends the line.
-fn word_at(text: &[u8], at: usize) -> Query
-    ensures { result ≡ word_of (drop at text.now) }
-{
-    if is_word(text, at, b"groups") {
-        return Query::Groups;
-    }
-    if is_word(text, at, b"looking") {
-        return Query::Looking;
-    }
-    if is_word(text, at, b"details") {
-        return Query::Details;
-    }
-    if is_word(text, at, b"table") {
-        return Query::Table;
-    }
-    Query::Unknown
 }
 
 // What is asked by the word at a place.
 pub fn query_at(text: &[u8], at: usize) -> Query
     ensures query { result ≡ query_of (drop at text.now) at }
 {
-    if starts_at(text, at, b"spans ") {
+    let rest = from(text, at);
+    if rest.starts_with(b"spans ") {
         return Query::Spans { at: at + 6 };
     }
-    if starts_at(text, at, b"fields ") {
+    if rest.starts_with(b"fields ") {
         return Query::Fields { at: at + 7 };
     }
-    word_at(text, at)
+    match rest {
+        b"groups" => Query::Groups,
+        b"looking" => Query::Looking,
+        b"details" => Query::Details,
+        b"table" => Query::Table,
+        _ => Query::Unknown,
+    }
 }

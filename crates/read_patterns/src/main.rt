@@ -3,88 +3,55 @@
 // how long a match can be (request 6); 'no limit' stands for a greatest length that there is none of.
 #![tactic(auto)]
 
-ghost use Rattle.std.specs.Prelude.{◌≤◌, ◌*◌, ◌<◌};
-ghost use Rattle.lines.specs.Exchange.{Finished};
-ghost use Rattle.printing.specs.Text.{Printed};
+ghost use Rattle.std.specs.Prelude.{◌≡◌, sum_by, count_ones};
 ghost use Rattle.read_patterns.specs.Line.{Told};
 
-use lines::{KEPT, SIZE, State};
-use reader::Answer;
-use std::io::Read;
+use lines::{Input, Responder};
+use printing::Output;
 
-fn ones(x: u64) -> u64
-    ensures { result < 128 }
+// No answer has more bytes.
+const LONGEST: usize = 129;
+
+// How many bytes the sets of the leaves hold together.
+fn members(masks: &[u64; 256]) -> usize
+    ensures { result ≡ sum_by count_ones masks.now }
 {
-    (u64::count_ones(x) % 128) as u64
-}
-
-fn members(masks: &[u64; 256]) -> u64 {
-    let mut sum = 0;
-    for b in 0..256 {
-        sum += ones(masks[b]);
+    let mut held = 0;
+    for mask in masks {
+        held += mask.count_ones() as usize;
     }
-    sum
+    held
 }
 
-// What the reader hands over for a pattern.
-fn answer(out: &mut [u8; SIZE], pattern: &[u8]) -> usize
-    ensures { Printed 129 (Told pattern.now) out.old 0 out.new result }
-{
-    let fixed = sets::fixed();
-    let reading = reader::read(&fixed, pattern);
-    let answer = reading.answer;
-    let arrays = reading.pattern;
-    let own = reading.lengths;
-    let greatest = own.greatest;
-    let Answer::Refused { number, place } = answer else {
-        let masks = arrays.masks;
-        let held = members(&masks) as usize;
-        let limited = lengths::is_limited(greatest);
-        let most = lengths::bytes_of(greatest);
-        return printing::accepted(
-            out,
-            0,
-            arrays.len,
-            arrays.leaves,
-            held,
-            own.least,
-            limited,
-            most,
-        );
-    };
-    printing::refused(out, 0, number, place)
-}
+// Answers a pattern with what the reader hands over.
+#[derive(Drop)]
+struct Patterns;
 
-// Answers the patterns of the input, until it is over or a read or a write fails.
-fn run<P: Print, R: Read>(
-    rt: &P,
-    input: &mut R,
-    chunk: &mut [u8; SIZE],
-    line: &mut [u8; KEPT],
-    out: &mut [u8; SIZE],
-) -> State
-    ensures { Finished result }
-{
-    let mut s = lines::start();
-    let mut turns = u64::MAX;
-    while turns > 0 && lines::goes_on(s) {
-        s = lines::next_line(chunk, line, s);
-        if s.whole {
-            let pattern = lines::first_of(line, s.n);
-            s.used = answer(out, pattern);
+impl Responder for Patterns {
+    ghost answers = { λ x p w y. Told p w };
+
+    ghost LONGEST = { 129 };
+
+    fn longest(&self) -> usize {
+        LONGEST
+    }
+
+    fn answer(&mut self, out: &mut Output, pattern: &[u8]) {
+        match reader::read(&sets::fixed(), pattern) {
+            Ok(x) => out.accepted(
+                x.pattern.len,
+                x.pattern.leaves,
+                members(&x.pattern.masks),
+                x.lengths.least,
+                x.lengths.greatest,
+            ),
+            Err(e) => out.refused(e.fault.number(), e.place),
         }
-        s = lines::exchange(rt, input, chunk, out, s);
-        turns -= 1;
     }
-    lines::finish(s)
 }
 
 fn main(rt: HostRuntime) {
-    let mut input = rt.stdin();
-    let mut chunk = [0u8; SIZE];
-    let mut line = [0u8; KEPT];
-    let mut out = [0u8; SIZE];
-    let s = run(&rt, &mut input, &mut chunk, &mut line, &mut out);
-    let source = s.source;
-    lines::tell(&rt, &mut out, source);
+    let mut input = Input::new();
+    input.run(&rt, &mut rt.stdin(), &mut Patterns, &mut Output::new());
+    input.tell(&rt);
 }

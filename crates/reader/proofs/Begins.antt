@@ -21,7 +21,7 @@ use Rattle.grammar.proofs.Texts.{KindOk, kind_ok, ordinary_kind}
 use Rattle.grammar.proofs.Sound.{opens_max, no_class_lem, no_count_lem}
 use Rattle.grammar.proofs.Unique.{after_sequence, after_alternation, opens_sequence, text_sequence, text_alternation}
 use Rattle.grammar.proofs.Place.{text_length, sequence_formed, alternation_formed, opens_alternation}
-use Rattle.reader.specs.declared.Size.{Size}
+use Rattle.reader.specs.declared.size.Size.{Size}
 use Rattle.reader.specs.declared.Brackets.{Brackets}
 use Rattle.reader.specs.Steps.{is_special, is_repeat, NoRepeat, Beginning, Begun, Ready, Alternated, Sequenced, Atomic, Repeated}
 

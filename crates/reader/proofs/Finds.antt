@@ -27,9 +27,12 @@ use Rattle.tokens.specs.Held.{Added, Rewritten}
 use Rattle.scanner.specs.Scanned.{Onward}
 use Rattle.lengths.specs.Lengths.{no_byte, one_byte, in_row, one_of, up_to, or_more, lengths, lengths_atom}
 use Rattle.lengths.specs.Code.{meaning, capped}
-use Rattle.reader.specs.declared.Size.{Size}
-use Rattle.reader.specs.declared.Part.{Part}
-use Rattle.reader.specs.declared.Part.TheVariants.{Read, Refused}
+use Rattle.reader.specs.declared.size.Size.{Size}
+use Rattle.std.specs.Prelude.{Result, Ok, Err, IsErrAnd}
+use Rattle.std.proofs.lemmas.Result.{err_from_is_err_and}
+use Rattle.reader.specs.declared.Found.{Found}
+use Rattle.reader.specs.declared.refusal.Refusal.{Refusal}
+use Rattle.reader.specs.Numbers.{number_of}
 use Rattle.reader.specs.declared.Brackets.{Brackets}
 use Rattle.reader.specs.Steps.{is_special, one_more, Passed, AddedIf, NoRepeat, Begun, Weighs, light, load_of, Sized, sign_end, tokens_of, Wrote, Rewrote, PartRead, found_part, found_fault, Alternated, Sequenced, Atomic, Repeated}
 use Rattle.reader.proofs.Weights.{or_light, or_heavy, repeated_pos, atom_pos, atom_heaviest, load_none, load_some}
@@ -61,23 +64,20 @@ module _ {p : List ℕ} where
   wrote_rewrote y x r = record { codes = r.codes x.codes; are = λ loaded. r.are loaded x.codes (y loaded) (x.are loaded); holds = λ l h. r.holds l x.codes (x.holds l h) h.used }
 
 -- An atom that is no group, with the brackets that are there.
-pub single : {p : List ℕ} {G : Brackets → ℕ → Size → Type 0} {r : Part} (g : Brackets) → PartRead p (λ e c. (h : Brackets) → G h e c) r → PartRead p (G g) r
+pub single : {p : List ℕ} {G : Brackets → ℕ → Size → Type 0} {r : Result Found Refusal} (g : Brackets) → PartRead p (λ e c. (h : Brackets) → G h e c) r → PartRead p (G g) r
 single g (found_part f) = found_part (f g)
 single g (found_fault x) = found_fault x
 
--- A refusal is passed on, and an answer that is known.
+-- A refusal is passed on, and what is found is known.
 module _ {p : List ℕ} {F : ℕ → Size → Type 0} where
-  refusal : {k q : ℕ} → PartRead p F (Refused k q) → Fault p k q
+  pub refusal : {e : Refusal} → PartRead p F (Err e) → Fault p (number_of e.fault) e.place
   refusal (found_fault h) = h
 
-  finding : {e : ℕ} {c : Size} → PartRead p F (Read e c) → F e c
+  pub finding : {x : Found} → PartRead p F (Ok x) → F x.at x.size
   finding (found_part h) = h
 
-  pub passed_on : {G : ℕ → Size → Type 0} {k q : ℕ} (r : Part) → r ≡ Refused k q → PartRead p F r → PartRead p G r
-  passed_on r x h = rw x (found_fault (refusal (rw x at h)))
-
-  pub known : {e : ℕ} {c : Size} {r : Part} → r ≡ Read e c → PartRead p F r → F e c
-  known x h = finding (rw x at h)
+  pub passed_on : {G : ℕ → Size → Type 0} {e : Refusal} (r : Result Found Refusal) → IsErrAnd r (λ f. f ≡ e) → PartRead p F (Err e) → PartRead p G r
+  passed_on r x h = let q = err_from_is_err_and r x in rw (q.1, q.2) (found_fault (refusal h))
 
 -- Repeats.
 rewrote : {p : List ℕ} {n from m : ℕ} {a b : List ℕ} (how : Manner) (x : Repeat) (f : List ℕ → List ℕ) → Rewritten a n from f b m

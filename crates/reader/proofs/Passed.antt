@@ -9,10 +9,10 @@ use native.Mathlib.Decide.{dec_lt}
 use lib.ListN.{length, get_or, drop, length-drop}
 use lib.Dec.{ltb}
 use borrow.Author.Tests.{lt-ltb, le-ltb, eq-eqb, ne_eqb}
+use Rattle.std.specs.Prelude.{Some, None}
 use Rattle.grammar.specs.Brackets.{max_fields}
 use Rattle.reader.specs.declared.Brackets.{Brackets}
-use Rattle.reader.specs.Reading.{no_brackets}
-use Rattle.reader.specs.Steps.{one_more, and_more, Passed}
+use Rattle.reader.specs.Steps.{no_brackets, one_more, and_more, Passed}
 
 more_append : (n : ℕ) (g : Brackets) (l m : List (List ℕ)) → and_more n g (l ++ m) ≡ and_more n (and_more n g l) m
 unfolding and_more
@@ -48,26 +48,26 @@ ninth_past : (n : ℕ) (g : Brackets) (l : List (List ℕ)) → max_fields < g.c
 unfolding and_more
 ninth_past n g [] h = refl
 ninth_past n g (s ∷ l) h =
-    ninth_past n (one_more g (n - length s)) l (omega arith) ∙ ap (λ c. cond c (n - length s) g.ninth) (ne_eqb g.count max_fields (λ x. omega arith))
+    ninth_past n (one_more g (n - length s)) l (omega arith) ∙ ap (λ c. cond c (Some (n - length s)) g.ninth) (ne_eqb g.count max_fields (λ x. omega arith))
 
-ninth_from : (n : ℕ) (g : Brackets) (l : List (List ℕ)) (k : ℕ) → g.count + k ≡ max_fields → (and_more n g l).ninth ≡ cond (ltb k (length l)) (n - length (get_or l k [])) g.ninth
+ninth_from : (n : ℕ) (g : Brackets) (l : List (List ℕ)) (k : ℕ) → g.count + k ≡ max_fields → (and_more n g l).ninth ≡ cond (ltb k (length l)) (Some (n - length (get_or l k []))) g.ninth
 unfolding and_more
 ninth_from n g [] k e = rw (le-ltb k 0 (omega arith))
 ninth_from n g (s ∷ l) zero e =
     rw (lt-ltb 0 (suc (length l)) (omega arith))
-    (ninth_past n (one_more g (n - length s)) l (omega arith) ∙ ap (λ c. cond c (n - length s) g.ninth) (eq-eqb g.count max_fields (omega arith)))
+    (ninth_past n (one_more g (n - length s)) l (omega arith) ∙ ap (λ c. cond c (Some (n - length s)) g.ninth) (eq-eqb g.count max_fields (omega arith)))
 ninth_from n g (s ∷ l) (suc k) e =
     ninth_from n (one_more g (n - length s)) l k (omega arith)
-    ∙ ap (λ c. cond (ltb k (length l)) (n - length (get_or l k [])) (cond c (n - length s) g.ninth)) (ne_eqb g.count max_fields (λ x. omega arith))
-    ∙ ap (λ c. cond c (n - length (get_or l k [])) g.ninth) (same (dec_lt k (length l)))
+    ∙ ap (λ c. cond (ltb k (length l)) (Some (n - length (get_or l k []))) (cond c (Some (n - length s)) g.ninth)) (ne_eqb g.count max_fields (λ x. omega arith))
+    ∙ ap (λ c. cond c (Some (n - length (get_or l k []))) g.ninth) (same (dec_lt k (length l)))
   where
     same : Dec (k < length l) → ltb k (length l) ≡ ltb (suc k) (suc (length l))
     same (yes h) = lt-ltb k (length l) h ∙ sym (lt-ltb (suc k) (suc (length l)) (omega arith))
     same (no h) = le-ltb k (length l) (omega arith) ∙ sym (le-ltb (suc k) (suc (length l)) (omega arith))
 
-pub all_brackets : (n c : ℕ) (l : List (List ℕ)) → length l ≡ c → and_more n no_brackets l ≡ record { count = c; ninth = cond (ltb max_fields c) (n - length (get_or l max_fields [])) 0 }
+pub all_brackets : (n c : ℕ) (l : List (List ℕ)) → length l ≡ c → and_more n no_brackets l ≡ record { count = c; ninth = cond (ltb max_fields c) (Some (n - length (get_or l max_fields []))) None }
 all_brackets n c l e =
     let a : (and_more n no_brackets l).count ≡ c = more_count n no_brackets l ∙ omega arith in
-    let b : (and_more n no_brackets l).ninth ≡ cond (ltb max_fields c) (n - length (get_or l max_fields [])) 0 =
-    ninth_from n no_brackets l max_fields refl ∙ ap (λ k. cond (ltb max_fields k) (n - length (get_or l max_fields [])) 0) e in
+    let b : (and_more n no_brackets l).ninth ≡ cond (ltb max_fields c) (Some (n - length (get_or l max_fields []))) None =
+    ninth_from n no_brackets l max_fields refl ∙ ap (λ k. cond (ltb max_fields k) (Some (n - length (get_or l max_fields []))) None) e in
     λ t. record { count = a t; ninth = b t }

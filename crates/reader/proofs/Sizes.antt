@@ -9,12 +9,9 @@ use Rattle.grammar.specs.Limits.{times, repeated}
 use Rattle.lengths.specs.Lengths.{Extent, in_row, one_of, up_to, or_more, under_repeat}
 use Rattle.lengths.specs.Code.{meaning, capped}
 use Rattle.lengths.proofs.Capped.{row_counted, one_counted, up_to_counted, or_more_counted}
-use Rattle.reader.specs.declared.Size.{Size}
+use Rattle.reader.specs.declared.size.Size.{Size}
 use Rattle.reader.specs.Steps.{load_of, Sized, SizeOf}
-use Rattle.reader.proofs.Weights.{weighs_65, weighs_plus, weighs_again, weighs_times, one_load}
-
-pub size_65 : {c : Size} {w h : ℕ} {y : Extent} → SizeOf c w h y → c.weight ≤ 65
-size_65 s = weighs_65 s.load
+use Rattle.reader.proofs.Weights.{weighs_plus, weighs_again, weighs_times, one_load}
 
 -- An alternative with no part weighs 1.
 pub one_size : {c : Size} {w h : ℕ} {y : Extent} (r : Size) → Sized r (max 1 c.weight) (meaning c.lengths) → SizeOf c w h y → SizeOf r (max 1 w) (max (max 1 w) h) y

@@ -1,6 +1,6 @@
 -- What the functions of the cycle find at a place: a part of a tree, its tokens and its size, or the pattern's fault.
 -- Assumes nothing.
-use Rattle.std.specs.Prelude.{◌≡◌, ◌≢◌, ℕ, suc, ◌+◌, ◌-◌, ◌≤◌, ◌<◌, max, min, Bool, true, false, cond, List, [], ◌∷◌, ◌++◌, map, length, get_or, drop, eqb, ltb}
+use Rattle.std.specs.Prelude.{Some, None, Result, Ok, Err, ◌≡◌, ◌≢◌, ℕ, suc, ◌+◌, ◌-◌, ◌≤◌, ◌<◌, max, min, Bool, true, false, cond, List, [], ◌∷◌, ◌++◌, map, length, get_or, drop, eqb}
 use Rattle.theory.specs.Pattern.{Re}
 use Rattle.grammar.specs.Grammar.{Repeat, unmarked, Alternation, Sequence, Atom, Kind, ordinary, backslash, bar, opener, closer, bracket, brace, period, stray, sign, kind, special, repeat_text, alternation, sequence, atom, WfAlternation, WfSequence, WfAtom, WfRepeat}
 use Rattle.grammar.specs.Limits.{max_bytes, max_depth, max_weight, depth, depth_sequence, depth_atom, times, repeated, weight, weights, weight_atom, heaviest, heaviest_within, heaviest_atom}
@@ -10,16 +10,15 @@ use Rattle.grammar.specs.WriteOut.{chain, shape, parts, shape_atom, repeat_of}
 use Rattle.grammar.specs.Before.{Before, text, opens, is_once, ready, softens, WfBefore}
 use Rattle.grammar.specs.Refusals.{Fault}
 use Rattle.grammar.specs.Code.Tokens.{max_parts, Token, tokens}
-use Rattle.grammar.specs.Code.Codes.{first_holds, token_of}
+use Rattle.grammar.specs.Code.Codes.{first_holds, first_leaf, token_of}
 use Rattle.tokens.specs.Held.{HoldsCodes, Added}
-use Rattle.lengths.specs.Lengths.{Extent, no_byte, under_repeat, lengths, lengths_within, lengths_atom}
+use Rattle.lengths.specs.Lengths.{Extent, one_byte, under_repeat, lengths, lengths_within, lengths_atom}
 use Rattle.lengths.specs.Code.{meaning, capped}
-use Rattle.reader.specs.declared.Answer.{Answer}
-use Rattle.reader.specs.declared.Answer.TheVariants.{Accepted}
 use Rattle.reader.specs.declared.Brackets.{Brackets}
-use Rattle.reader.specs.declared.Size.{Size}
-use Rattle.reader.specs.declared.Part.{Part}
-use Rattle.reader.specs.declared.Part.TheVariants.{Read, Refused}
+use Rattle.reader.specs.declared.size.Size.{Size}
+use Rattle.reader.specs.declared.Found.{Found}
+use Rattle.reader.specs.declared.refusal.Refusal.{Refusal}
+use Rattle.reader.specs.Numbers.{number_of}
 
 abbrev pub is_special : ℕ → Bool
 is_special b = special (kind b)
@@ -98,9 +97,13 @@ load_of n v = cond (eqb v above_limit) above_limit (min above_limit (times n v))
 abbrev pub sign_end : List ℕ → ℕ → ℕ
 sign_end p e = cond (first_holds (drop e p) 63) (e + 1) e
 
+-- Before any bracket.
+abbrev pub no_brackets : Brackets
+no_brackets = record { count = 0; ninth = None }
+
 -- The brackets g and one more, at the place q.
 abbrev pub one_more : Brackets → ℕ → Brackets
-one_more g q = record { count = suc g.count; ninth = cond (eqb g.count max_fields) q g.ninth }
+one_more g q = record { count = suc g.count; ninth = cond (eqb g.count max_fields) (Some q) g.ninth }
 
 -- The brackets g and more, each given by the text from it on to the end of a pattern of n bytes.
 unfoldable pub and_more : ℕ → Brackets → List (List ℕ) → Brackets
@@ -128,6 +131,12 @@ pub record AddedIf (P : Type 0) (a : List ℕ) (n code : ℕ) (b : List ℕ) (m 
   pub added : P → Added a n (code ∷ []) b m
   pub kept : (P → ⊥) → (b ≡ a) × (m ≡ n)
 
+-- The code of the leaf at the place `at` was added, and its size found.
+pub record LeafAdded (at end : ℕ) (a : List ℕ) (n : ℕ) (b : List ℕ) (m : ℕ) (x : Found) : Type 0 where
+  pub code : Added a n ((first_leaf + at) ∷ []) b m
+  pub past : x.at ≡ end
+  pub size : Sized x.size 1 one_byte
+
 -- A part y, whose codes begin at the place `from`, became the part f y.
 pub record Rewrote (p : List ℕ) (a : List ℕ) (n from : ℕ) (b : List ℕ) (m : ℕ) (f : Re → Re) : Type 0 where
   pub codes : List ℕ → List ℕ
@@ -135,9 +144,9 @@ pub record Rewrote (p : List ℕ) (a : List ℕ) (n from : ℕ) (b : List ℕ) (
   pub holds : (l k : List ℕ) → HoldsCodes a n (l ++ k) → from ≡ min max_parts (length l) → HoldsCodes b m (l ++ codes k)
 
 -- What is found, F, ends at e and has the size c; or the pattern has the fault.
-pub data PartRead (p : List ℕ) (F : ℕ → Size → Type 0) : Part → Type 0 where
-  found_part : {e : ℕ} {c : Size} → F e c → PartRead p F (Read e c)
-  found_fault : {k q : ℕ} → Fault p k q → PartRead p F (Refused k q)
+pub data PartRead (p : List ℕ) (F : ℕ → Size → Type 0) : Result Found Refusal → Type 0 where
+  found_part : {x : Found} → F x.at x.size → PartRead p F (Ok x)
+  found_fault : {e : Refusal} → Fault p (number_of e.fault) e.place → PartRead p F (Err e)
 
 -- An alternation from the place `at` to e, of the size c.
 pub record Alternated (p : List ℕ) (at d e : ℕ) (c : Size) (a : List ℕ) (n : ℕ) (b : List ℕ) (m : ℕ) (g h : Brackets) : Type 0 where
@@ -152,7 +161,7 @@ pub record Alternated (p : List ℕ) (at d e : ℕ) (c : Size) (a : List ℕ) (n
   pub size : SizeOf c (weight t) (heaviest t) (lengths t)
   pub passed : Passed p at e (openings t (drop e p)) g h
 
-abbrev pub AlternationRead : List ℕ → ℕ → ℕ → List ℕ → ℕ → List ℕ → ℕ → Brackets → Brackets → Part → Type 0
+abbrev pub AlternationRead : List ℕ → ℕ → ℕ → List ℕ → ℕ → List ℕ → ℕ → Brackets → Brackets → Result Found Refusal → Type 0
 AlternationRead p at d a n b m g h = PartRead p (λ e c. Alternated p at d e c a n b m g h)
 
 -- A sequence.
@@ -168,7 +177,7 @@ pub record Sequenced (p : List ℕ) (at d e : ℕ) (c : Size) (a : List ℕ) (n 
   pub size : SizeOf c (weights q) (heaviest_within q) (lengths_within q)
   pub passed : Passed p at e (openings_within q (drop e p)) g h
 
-abbrev pub SequenceRead : List ℕ → ℕ → ℕ → List ℕ → ℕ → List ℕ → ℕ → Brackets → Brackets → Part → Type 0
+abbrev pub SequenceRead : List ℕ → ℕ → ℕ → List ℕ → ℕ → List ℕ → ℕ → Brackets → Brackets → Result Found Refusal → Type 0
 SequenceRead p at d a n b m g h = PartRead p (λ e c. Sequenced p at d e c a n b m g h)
 
 -- An atom.
@@ -183,11 +192,11 @@ pub record Atomic (p : List ℕ) (at d e : ℕ) (c : Size) (a : List ℕ) (n : �
   pub size : SizeOf c (weight_atom x) (heaviest_atom x) (lengths_atom x)
   pub passed : Passed p at e (openings_atom x (drop e p)) g h
 
-abbrev pub AtomRead : List ℕ → ℕ → ℕ → List ℕ → ℕ → List ℕ → ℕ → Brackets → Brackets → Part → Type 0
+abbrev pub AtomRead : List ℕ → ℕ → ℕ → List ℕ → ℕ → List ℕ → ℕ → Brackets → Brackets → Result Found Refusal → Type 0
 AtomRead p at d a n b m g h = PartRead p (λ e c. Atomic p at d e c a n b m g h)
 
 -- An atom that is no group: whatever the brackets are, they stay.
-abbrev pub LeafRead : List ℕ → ℕ → ℕ → List ℕ → ℕ → List ℕ → ℕ → Part → Type 0
+abbrev pub LeafRead : List ℕ → ℕ → ℕ → List ℕ → ℕ → List ℕ → ℕ → Result Found Refusal → Type 0
 LeafRead p at d a n b m = PartRead p (λ e c. (g : Brackets) → Atomic p at d e c a n b m g g)
 
 -- A repeat, or none, after an atom of the size v whose codes begin at the place `from`.
@@ -202,15 +211,5 @@ pub record Repeated (p : List ℕ) (at : ℕ) (v : Size) (e : ℕ) (c : Size) (a
   pub wrote : Rewrote p a n from b m (repeat_of x)
   pub size : (w h : ℕ) (y : Extent) → w ≤ h → SizeOf v w h y → SizeOf c (repeated x w) (max h (repeated x w)) (under_repeat x y)
 
-abbrev pub RepeatRead : List ℕ → ℕ → Size → List ℕ → ℕ → ℕ → List ℕ → ℕ → Part → Type 0
+abbrev pub RepeatRead : List ℕ → ℕ → Size → List ℕ → ℕ → ℕ → List ℕ → ℕ → Result Found Refusal → Type 0
 RepeatRead p at v a n from b m = PartRead p (λ e c. Repeated p at v e c a n from b m)
-
--- The answer for a pattern of n bytes by what was found from its start: a `)` where the alternation ends has no `(`.
-abbrev pub answer_by : ℕ → Part → Answer
-answer_by n (Refused k q) = Answer.Refused k q
-answer_by n (Read e c) = cond (ltb e n) (Answer.Refused 2 e) (cond (ltb max_weight c.weight) (Answer.Refused 8 e) Accepted)
-
--- How long the matches of what was found can be, as far as they are counted.
-abbrev pub lengths_by : Part → Extent
-lengths_by (Refused k q) = no_byte
-lengths_by (Read e c) = meaning c.lengths

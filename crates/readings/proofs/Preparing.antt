@@ -1,21 +1,23 @@
--- The tables that a pattern is prepared with are its own, or they are kept.
+-- The tables that a pattern is prepared with are its own.
 -- Assumes nothing.
-use mathlib.Core.Path.{◌≡◌, refl, subst}
+use mathlib.Core.Path.{subst}
 use mathlib.Core.List.{List}
 use Prim.Native.Nat.{ℕ}
-use Rattle.reader.specs.declared.Answer.TheVariants.{Accepted, Refused}
+use Rattle.std.specs.Prelude.{Ok, Err}
 use Rattle.reader.specs.declared.Reading.{Reading}
+use Rattle.reader.specs.declared.refusal.Refusal.{Refusal}
 use Rattle.reader.specs.Reading.{ReadRight}
 use Rattle.reader.proofs.Laws.{accepted_reads, accepted_leaves, accepted_holds, refused_fault}
-use Rattle.matchers.specs.Tables.{Tables, Ready}
-use Rattle.readings.specs.Tables.{FilledBy, Prepared, ready, refused}
+use Rattle.matchers.specs.Tables.{Ready}
+use Rattle.readings.specs.declared.Tables.{Tables}
+use Rattle.readings.specs.Tables.{tables_in, FilledBy, Prepared, ready, refused}
 
 -- An accepted pattern's tables,
-pub prepared_ready : {loaded p : List ℕ} {r : Reading} {old new : Tables} → ReadRight loaded p r → r.answer ≡ Accepted → FilledBy r.pattern new → Prepared loaded p old r.answer new
-prepared_ready {new = new} h e filled =
-    let (a, reads, is) = accepted_reads h e in
-    ready e reads (subst (λ x. Ready x new) is (filled.ready (accepted_leaves h e).0 (accepted_leaves h e).1 (accepted_holds h e)))
+pub prepared_ready : {loaded p : List ℕ} {r : Reading} {t : Tables} → ReadRight loaded p (Ok r) → FilledBy r.pattern (tables_in t) → Prepared loaded p (Ok t)
+prepared_ready {t = t} h filled =
+    let (a, reads, is) = accepted_reads h in
+    ready reads (subst (λ x. Ready x (tables_in t)) is (filled.ready (accepted_leaves h).0 (accepted_leaves h).1 (accepted_holds h)))
 
 -- or the refusal.
-pub prepared_refused : {loaded p : List ℕ} {n k : ℕ} {r : Reading} {old : Tables} → ReadRight loaded p r → r.answer ≡ Refused n k → Prepared loaded p old r.answer old
-prepared_refused h e = refused e (refused_fault h e) refl
+pub prepared_refused : {loaded p : List ℕ} {e : Refusal} → ReadRight loaded p (Err e) → Prepared loaded p (Err e)
+prepared_refused h = refused (refused_fault h)

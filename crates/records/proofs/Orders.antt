@@ -5,8 +5,9 @@ use mathlib.Core.List.{List, [], ◌∷◌, ◌++◌}
 use Prim.Native.Nat.{ℕ, zero, suc, ◌+◌, ◌-◌, ◌*◌, ◌/◌, ◌%◌, ◌≤◌, ◌<◌}
 use native.Mathlib.Nat.{add-zero}
 use native.Mathlib.Omega.{arith}
-use lib.ListN.{length, get_or, set, take, drop, length-take, drop_of_length-le, replicate}
-use lib.Seq.{sets, set-get_or, get_or-drop, drop-drop, get_or-set_other}
+use lib.ListN.{length, get_or, set, take, drop, drop_of_length-le, length-append, length-drop, length-take, replicate}
+use Rattle.std.proofs.lemmas.List.{get_or_append_left, get_or-take}
+use lib.Seq.{sets, drop_at, set-get_or, get_or-drop, drop-drop, get_or-set_other}
 use Rattle.theory.specs.Lines.{Below}
 use Rattle.verdict.proofs.Packed.{six_bytes}
 use Rattle.records.specs.Bytes.{three, threes, four, fours}
@@ -50,10 +51,8 @@ none_more (suc g) at v h =
     rw (set_zero v at (h at (omega arith)), set_zero v (suc at) (h (suc at) (omega arith)), set_zero v (suc (suc at)) (h (suc (suc at)) (omega arith)))
     (none_more g (suc (suc (suc at))) v λ j k. h j (omega arith))
 
-pub put_done : (v l : List ℕ) (i n : ℕ) → n ≤ 4 * i → Zeros (13 + 3 * i) v → sets v (13 + 3 * i) (threes (16 - i) (drop (4 * i) (take n l))) ≡ v
-put_done v l i n h z =
-    let e : drop (4 * i) (take n l) ≡ [] = drop_of_length-le (take n l) {i = 4 * i} (omega (arith, length-take n l)) in
-    rw e (none_more (16 - i) (13 + 3 * i) v z)
+pub put_done : (v l : List ℕ) (i : ℕ) → length l ≤ 4 * i → Zeros (13 + 3 * i) v → sets v (13 + 3 * i) (threes (16 - i) (drop (4 * i) l)) ≡ v
+put_done v l i h z = rw (drop_of_length-le l {i = 4 * i} h) (none_more (16 - i) (13 + 3 * i) v z)
 
 -- Taking them out: four more.
 pub take_more : (list v : List ℕ) (i : ℕ) → i < 16
@@ -65,6 +64,19 @@ take_more list v i h =
     let at : 4 * (i + 1) ≡ suc (suc (suc (suc (4 * i)))) = omega arith in
     let j : 13 + 3 * (i + 1) ≡ 13 + 3 * i + 3 = omega arith in
     rw (n, at, j, get_or-drop (13 + 3 * i) v 0 0, get_or-drop (13 + 3 * i) v 1 0, get_or-drop (13 + 3 * i) v 2 0, add-zero, drop-drop 3 (13 + 3 * i) v)
+
+-- The three bytes x from the front of those left, which are of the 48 from place 13 on.
+pub cut : (v x rest : List ℕ) (i : ℕ) → drop (3 * i) (take 48 (drop 13 v)) ≡ x ++ rest → length x ≡ 3
+    → (i < 16) × ((j k : ℕ) → j < 3 → 13 + (3 * i + j) ≡ k → get_or x j 0 ≡ get_or v k 0) × (rest ≡ drop (3 * (i + 1)) (take 48 (drop 13 v)))
+cut v x rest i e three =
+    let room : i < 16 = omega (arith, ap length e, length-append x rest, length-drop (3 * i) (take 48 (drop 13 v)), length-take 48 (drop 13 v)) in
+    let at : 3 * i + 3 ≡ 3 * (i + 1) = omega arith in (
+      room,
+      (λ j k h place.
+          sym (get_or_append_left x rest 0 j (omega arith)) ∙ ap (λ l. get_or l j 0) (sym e) ∙ get_or-drop (3 * i) (take 48 (drop 13 v)) j 0
+          ∙ get_or-take 48 (drop 13 v) (3 * i + j) 0 (omega arith) ∙ get_or-drop 13 v (3 * i + j) 0 ∙ ap (λ m. get_or v m 0) place),
+      sym (drop_at x rest 3 three) ∙ ap (drop 3) (sym e) ∙ drop-drop 3 (3 * i) (take 48 (drop 13 v)) ∙ ap (λ k. drop k (take 48 (drop 13 v))) at,
+    )
 
 -- The bytes put in are those of the record.
 pub threes_right : (g : ℕ) (l : List ℕ) → threes g l ≡ six_bytes g l

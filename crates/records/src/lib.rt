@@ -3,7 +3,7 @@
 // Code holds a record in 64 bytes, and those past its width are zero: so one `pack` and one `unpack` do for every width.
 #![tactic(auto)]
 
-ghost use Rattle.std.specs.Prelude.{◌≡◌, [], ◌∷◌, ◌+◌, ◌*◌, ◌/◌, ◌%◌, ◌≤◌, ◌<◌, min, get_or, take, drop, replicate};
+ghost use Rattle.std.specs.Prelude.{◌≡◌, [], ◌∷◌, ◌+◌, ◌*◌, ◌/◌, ◌%◌, ◌≤◌, ◌<◌, min, length, get_or, drop, replicate};
 ghost use Rattle.std.proofs.lemmas.List.Edits.{sets};
 ghost use Rattle.verdict.specs.Record.{narrow};
 ghost use Rattle.records.specs.Packing.{Packed, Unpacked};
@@ -15,16 +15,20 @@ use standing::Standing;
 pub fn width(leaves: usize) -> usize
     ensures width { result ≡ (narrow (min leaves 64)).bytes }
 {
-    13 + (6 * words::least(leaves, words::LEAVES) + 7) / 8
+    13 + (6 * leaves.min(words::LEAVES) + 7) / 8
 }
 
-fn one(b: bool) -> u8
-    ensures { (result ≡ one b) × (result < 2) }
+// The count of (a), (b) and (d). Store by store: each byte holds something else, so a loop or a copy would be no shorter.
+fn put_flags(v: &mut [u8; 64], n: usize, first: bool, some: bool)
+    requires { n ≤ 64 }
+    ensures { v.new ≡ sets v.old 0 ((2 * n + one first) ∷ (one some * 128) ∷ []) }
 {
-    if b { 1 } else { 0 }
+    v[0] = 2 * (n as u8) + u8::from(first);
+    v[1] = u8::from(some) * 128;
 }
 
-// The lowest eight bits of y the other way round: a set has leaf 0 in its lowest bit, a record in its highest.
+// The lowest eight bits of y the other way round: a set has leaf 0 in its lowest bit, a record in its highest. By hand, since std's `reverse_bits` goes bit by bit in a
+// loop, which takes a record in and out a third more instructions.
 fn turned(y: u64) -> u64
     ensures { (result ≡ turn 8 y) × (result < 256) }
 {
@@ -38,25 +42,14 @@ fn turned(y: u64) -> u64
         + y / 128 % 2
 }
 
-// The count of (a), (b) and (d).
-fn put_flags(v: &mut [u8; 64], n: usize, first: bool, some: bool)
-    requires { n ≤ 64 }
-    ensures { v.new ≡ sets v.old 0 ((2 * n + one first) ∷ (one some * 128) ∷ []) }
-{
-    v[0] = 2 * (n as u8) + one(first);
-    v[1] = one(some) * 128;
-}
-
 // (c), eight leaves to a byte.
 fn put_set(v: &mut [u8; 64], x: u64)
     ensures { v.new ≡ sets v.old 2 (bytes_of 8 x) }
 {
     let mut y = x;
-    let mut i = 2;
-    while i < 10 {
+    for i in 2..10 {
         v[i] = turned(y) as u8;
-        y = y / 256;
-        i += 1;
+        y /= 256;
     }
 }
 
@@ -64,23 +57,18 @@ fn put_set(v: &mut [u8; 64], x: u64)
 fn put_origin(v: &mut [u8; 64], origin: usize, byte: u8)
     ensures { v.new ≡ sets v.old 10 ((origin / 256 % 256) ∷ (origin % 256) ∷ byte ∷ []) }
 {
-    v[10] = (origin / 256 % 256) as u8;
-    v[11] = (origin % 256) as u8;
+    v[10..12].copy_from_slice(&((origin % 65536) as u16).to_be_bytes());
     v[12] = byte;
 }
 
-// The number at place i of the list's first n, or 0 past them.
-fn entry(list: &[u8; 64], n: usize, i: usize) -> u8
-    requires { n ≤ 64 }
-    ensures { result ≡ get_or (take n list.now) i 0 }
+// The leaf number at place i, or 0 past them.
+fn entry(leaves: &[u8], i: usize) -> u8
+    ensures { result ≡ get_or leaves.now i 0 }
 {
-    if i < n {
-        return list[i];
-    }
-    0
+    leaves.get(i).copied().unwrap_or(0)
 }
 
-// Four leaf numbers in the three bytes from place `at` on.
+// Four leaf numbers in the three bytes from place `at` on. Store by store: each byte is put together otherwise.
 fn put_four(v: &mut [u8; 64], at: usize, a: u8, b: u8, c: u8, d: u8)
     requires { at + 3 ≤ 64 }
     ensures { v.new ≡ sets v.old at (three a b c d) }
@@ -90,24 +78,22 @@ fn put_four(v: &mut [u8; 64], at: usize, a: u8, b: u8, c: u8, d: u8)
     v[at + 2] = c % 4 * 64 + d % 64;
 }
 
-// A record with nothing but (a): the first n leaf numbers of the list. Those past n are zero from the start.
-fn with_order(list: &[u8; 64], n: usize) -> [u8; 64]
-    requires { n ≤ 64 }
-    ensures { result ≡ sets (replicate 64 0) 13 (threes 16 (take n list.now)) }
+// A record with nothing but (a): these leaf numbers. Those past them are zero from the start.
+fn with_order(leaves: &[u8]) -> [u8; 64]
+    requires { length leaves.now ≤ 64 }
+    ensures { result ≡ sets (replicate 64 0) 13 (threes 16 leaves.now) }
 {
     let mut v = [0u8; 64];
-    let mut i = 0;
-    while 4 * i < n {
+    for i in 0..leaves.len().div_ceil(4) {
         let j = 4 * i;
         put_four(
             &mut v,
             13 + 3 * i,
-            entry(list, n, j),
-            entry(list, n, j + 1),
-            entry(list, n, j + 2),
-            entry(list, n, j + 3),
+            entry(leaves, j),
+            entry(leaves, j + 1),
+            entry(leaves, j + 2),
+            entry(leaves, j + 3),
         );
-        i += 1;
     }
     v
 }
@@ -116,28 +102,26 @@ fn with_order(list: &[u8; 64], n: usize) -> [u8; 64]
 pub fn pack(s: Standing, origin: usize, byte: u8) -> [u8; 64]
     ensures packed { Packed s origin byte result }
 {
-    let n = words::least(s.n, words::LEAVES);
-    let mut v = with_order(&s.list, n);
+    let n = s.n.min(words::LEAVES);
+    let mut v = with_order(&s.list[..n]);
     put_flags(&mut v, n, s.first, s.some);
     put_set(&mut v, s.all);
     put_origin(&mut v, origin, byte);
     v
 }
 
-// (c), from its eight bytes.
+// (c), from its eight bytes, the last first.
 fn set_of(v: &[u8; 64]) -> u64
     ensures { result ≡ set_of 8 (drop 2 v.now) }
 {
     let mut x = 0u64;
-    let mut i = 10;
-    while 2 < i {
-        i -= 1;
-        x = x * 256 + turned(words::wide(v[i]) as u64);
+    for i in (2..10).rev() {
+        x = x * 256 + turned(u64::from(v[i]));
     }
     x
 }
 
-// Four leaf numbers from three bytes, to the places from `at` on.
+// Four leaf numbers from three bytes, to the places from `at` on. Store by store: each is put together otherwise.
 fn take_four(list: &mut [u8; 64], at: usize, a: u8, b: u8, c: u8)
     requires { at + 4 ≤ 64 }
     ensures { list.new ≡ sets list.old at (four a b c) }
@@ -153,11 +137,8 @@ fn order_of(v: &[u8; 64]) -> [u8; 64]
     ensures { result ≡ fours 16 (drop 13 v.now) }
 {
     let mut list = [0u8; 64];
-    let mut i = 0;
-    while i < 16 {
-        let j = 13 + 3 * i;
-        take_four(&mut list, 4 * i, v[j], v[j + 1], v[j + 2]);
-        i += 1;
+    for (i, bytes) in v[13..61].chunks_exact(3).enumerate() {
+        take_four(&mut list, 4 * i, bytes[0], bytes[1], bytes[2]);
     }
     list
 }
@@ -170,7 +151,7 @@ pub fn unpack(v: [u8; 64]) -> Standing
     let all = set_of(&v);
     Standing {
         list,
-        n: words::wide(v[0] / 2),
+        n: usize::from(v[0] / 2),
         first: v[0] % 2 == 1,
         all,
         some: v[1] / 128 == 1,

@@ -1,46 +1,62 @@
 -- The numbers of a count, and its ends.
 -- Assumes nothing.
-use mathlib.Core.Path.{◌≡◌, refl, ◌∙◌}
-use Prim.Native.Nat.{ℕ, ◌+◌, ◌-◌, ◌*◌, ◌≤◌, ◌<◌}
-use mathlib.Core.Bool.{Bool, true, false, ◌&&◌, and-false}
+use mathlib.Core.Path.{◌≡◌, refl, sym, ◌∙◌}
+use Prim.Native.Nat.{ℕ, ◌+◌, ◌-◌, ◌*◌, ◌<◌}
+use mathlib.Core.Bool.{Bool, true, false, cond}
 use mathlib.Core.List.{List, [], ◌∷◌}
 use native.Mathlib.Omega.{arith}
-use native.Mathlib.Decide.{ℕ_discrete}
-use lib.ListN.{length, drop, drop_of_length-le}
+use native.Mathlib.Decide.{ℕ_discrete, dec_lt}
+use lib.ListN.{length, get_or, drop, drop_of_length-le}
 use lib.Dec.{leb}
-use borrow.Author.Tests.{ne_eqb, leb-true}
-use Rattle.grammar.specs.Grammar.{Digits, one, two, digits_value, Repeat, exactly, at_least, between, is_digit}
-use Rattle.grammar.specs.Code.Reader.{Parsed, found, missing, or_else, read_digits, read_end, read_second, read_comma, read_count}
+use borrow.Author.Tests.{ne_eqb}
+use Rattle.grammar.specs.Grammar.{Digits, one, two, digits_value, Repeat, at_least, between, is_digit}
+use Rattle.grammar.specs.Code.Reader.{Parsed, found, missing, or_else, second_digit, read_digits, read_end, read_second, read_count}
 use Rattle.grammar.specs.Code.Codes.{first_holds}
-use Rattle.scanner.specs.Scanned.{CountFound}
-use Rattle.scanner.specs.Parts.{NumberFound}
-use Rattle.scanner.specs.declared.Number.TheVariants.{Value}
+use Rattle.std.specs.Prelude.{Some, None}
+use Rattle.scanner.specs.Scanned.{CountIs}
+use Rattle.scanner.specs.Parts.{digit_of, NumberIs}
 use Rattle.scanner.specs.declared.Count.TheVariants.{Exactly, AtLeast, Between}
-use Rattle.scanner.proofs.Places.{Here, onward_next, onward_from, first_other}
+use Rattle.scanner.proofs.Places.{Here, stands, onward_next, onward_from, first_other}
 
--- Digits: none, one or two.
-module _ {p : List ℕ} {at b : ℕ} (h : Here p at b) where
-  pub digits_none : is_digit b ≡ false → read_digits (drop at p) ≡ missing
-  digits_none e = rw (h.rest, e) refl
+-- The digit that was read.
+record DigitHere (p : List ℕ) (at n : ℕ) : Type 0 where
+  byte : ℕ
+  here : Here p at byte
+  is : is_digit byte ≡ true
+  value : n ≡ byte - 48
 
-  module _ (e : is_digit b ≡ true) where
-    pub digit_bounds : (48 ≤ b) × (b ≤ 57)
-    digit_bounds = go (leb 48 b) refl e
-      where
-        go : (c : Bool) → leb 48 b ≡ c → (c && leb b 57) ≡ true → (48 ≤ b) × (b ≤ 57)
-        go true l e = (leb-true 48 b l, leb-true b 57 e)
-        go false l e = let z : ◌≡◌ {A = ℕ} 0 1 = cc in absurd (omega arith)
+digit_here : (p : List ℕ) (at n : ℕ) → Some n ≡ digit_of (drop at p) → DigitHere p at n
+digit_here p at n e =
+    elim (dec_lt at (length p)) [
+      | yes h ↦ let k = stands p at h in go (get_or p at 0) k (is_digit (get_or p at 0)) refl (rw k.rest at e)
+      | no h ↦ let z : Some n ≡ digit_of [] = rw (drop_of_length-le p {i = at} (omega arith)) at e in let y : ◌≡◌ {A = ℕ} 0 1 = cc in absurd (omega arith)
+    ]
+  where
+    go : (b : ℕ) → Here p at b → (c : Bool) → is_digit b ≡ c → Some n ≡ cond c (Some (b - 48)) None → DigitHere p at n
+    go b k true q e = record { byte = b; here = k; is = q; value = cc }
+    go b k false q e = let y : ◌≡◌ {A = ℕ} 0 1 = cc in absurd (omega arith)
 
-    pub digits_last : length p ≤ at + 1 → NumberFound p at (Value (b - 48) (at + 1))
-    digits_last l = (one b, rw (h.rest, e, drop_of_length-le p l) refl, refl, onward_next h)
+-- No digit follows.
+one_only : (b : ℕ) (s : List ℕ) → None ≡ digit_of s → second_digit b s ≡ found (one b) s
+one_only b [] e = refl
+one_only b (c ∷ s) e = go (is_digit c) e
+  where
+    go : (d : Bool) → None ≡ cond d (Some (c - 48)) None → cond d (found (two b c) s) (found (one b) (c ∷ s)) ≡ found (one b) (c ∷ s)
+    go true e = let y : ◌≡◌ {A = ℕ} 0 1 = cc in absurd (omega arith)
+    go false e = refl
 
-    pub digits_one : {c : ℕ} → Here p (at + 1) c → is_digit c ≡ false → NumberFound p at (Value (b - 48) (at + 1))
-    digits_one k n = (one b, rw (h.rest, e, k.rest, n) refl, refl, onward_next h)
+module _ {p : List ℕ} {at n : ℕ} (e : Some n ≡ digit_of (drop at p)) where
+  pub digits_one : None ≡ digit_of (drop (at + 1) p) → NumberIs p at n (at + 1)
+  digits_one f =
+      let d = digit_here p at n e in
+      (one d.byte, rw (d.here.rest, d.is) (one_only d.byte (drop (at + 1) p) f), sym d.value, onward_next d.here)
 
-    pub digits_two : {c : ℕ} → Here p (at + 1) c → is_digit c ≡ true → NumberFound p at (Value (10 * (b - 48) + (c - 48)) (at + 2))
-    digits_two {c} k n =
-        let q : at + 1 + 1 ≡ at + 2 = omega arith in
-        (two b c, rw (h.rest, e, k.rest, n, q) refl, refl, record { forward = omega arith; inside = omega (arith, k.inside) })
+  pub digits_two : {m : ℕ} → Some m ≡ digit_of (drop (at + 1) p) → NumberIs p at (10 * n + m) (at + 2)
+  digits_two {m} f =
+      let d = digit_here p at n e in
+      let k = digit_here p (at + 1) m f in
+      let q : at + 1 + 1 ≡ at + 2 = omega arith in
+      (two d.byte k.byte, rw (d.here.rest, d.is, k.here.rest, k.is, q) refl, omega (arith, d.value, k.value), record { forward = omega arith; inside = omega (arith, k.here.inside) })
 
 -- The end.
 pub end_none : (x : Repeat) (s : List ℕ) → first_holds s 125 ≡ false → read_end x s ≡ missing
@@ -62,46 +78,21 @@ else_missing missing = refl
 
 -- After the `,`.
 module _ {p : List ℕ} {at m : ℕ} (d : Digits) (v : digits_value d ≡ m) (h : Here p at 125) where
-  pub least_large : leb m 63 ≡ false → read_end (at_least d) (drop at p) ≡ missing
-  least_large l = rw (h.rest, v, l) refl
-
-  pub least_found : (from : ℕ) → leb m 63 ≡ true → from < at → read_count (drop from p) ≡ read_end (at_least d) (drop at p) → CountFound p from (AtLeast m (at + 1))
+  pub least_found : (from : ℕ) → leb m 63 ≡ true → from < at → read_count (drop from p) ≡ read_end (at_least d) (drop at p) → CountIs p from (AtLeast m) (at + 1)
   least_found from l f q = (d, q ∙ rw (h.rest, v, l) refl, v, onward_from (omega arith) (onward_next h))
 
-pub second_none : (d : Digits) (s : List ℕ) → read_digits s ≡ missing → read_second d s ≡ read_end (at_least d) s
-second_none d s e = rw e refl
-
-module _ {p : List ℕ} {at m number next : ℕ} (n : NumberFound p at (Value number next)) (d : Digits) (v : digits_value d ≡ m) where
+module _ {p : List ℕ} {at m number next : ℕ} (n : NumberIs p at number next) (d : Digits) (v : digits_value d ≡ m) where
   ends : read_second d (drop at p) ≡ read_end (between d n.0) (drop next p)
   ends = rw (n.1, end_digit (at_least d) (drop at p) n.1) (else_missing (read_end (between d n.0) (drop next p)))
 
-  pub second_open : first_holds (drop next p) 125 ≡ false → read_second d (drop at p) ≡ missing
-  second_open e = ends ∙ end_none (between d n.0) (drop next p) e
-
-  pub second_swapped : Here p next 125 → leb m number ≡ false → read_second d (drop at p) ≡ missing
-  second_swapped h l = ends ∙ rw (h.rest, v, n.2, l) refl
-
-  pub second_large : Here p next 125 → leb number 63 ≡ false → read_second d (drop at p) ≡ missing
-  second_large h l = ends ∙ rw (h.rest, v, n.2, l, and-false (leb m number)) refl
-
-  pub second_found : (from : ℕ) → from < at → Here p next 125 → leb m number ≡ true → leb number 63 ≡ true → read_count (drop from p) ≡ read_second d (drop at p) → CountFound p from (Between m number (next + 1))
+  pub second_found : (from : ℕ) → from < at → Here p next 125 → leb m number ≡ true → leb number 63 ≡ true → read_count (drop from p) ≡ read_second d (drop at p) → CountIs p from (Between m number) (next + 1)
   second_found from f h k l q =
       (d, n.0, q ∙ ends ∙ rw (h.rest, v, n.2, k, l) refl, v, n.2, onward_from (omega arith) (onward_next h))
 
 -- A count.
-comma_none : (d : Digits) (s : List ℕ) → first_holds s 44 ≡ false → read_comma d s ≡ missing
-comma_none d [] e = refl
-comma_none d (b ∷ s) e = rw (ne_eqb b 44 (first_other 44 b e)) refl
-
-module _ {p : List ℕ} {at number next : ℕ} (n : NumberFound p at (Value number next)) where
-  pub count_open : first_holds (drop next p) 44 ≡ false → first_holds (drop next p) 125 ≡ false → read_count (drop at p) ≡ missing
-  count_open c e = rw (n.1, end_none (exactly n.0) (drop next p) e, comma_none n.0 (drop next p) c) refl
-
+module _ {p : List ℕ} {at number next : ℕ} (n : NumberIs p at number next) where
   pub count_comma : Here p next 44 → read_count (drop at p) ≡ read_second n.0 (drop (next + 1) p)
   count_comma h = rw (n.1, h.rest) refl
 
-  pub count_large : Here p next 125 → leb number 63 ≡ false → read_count (drop at p) ≡ missing
-  count_large h l = rw (n.1, h.rest, n.2, l) refl
-
-  pub count_exactly : Here p next 125 → leb number 63 ≡ true → CountFound p at (Exactly number (next + 1))
+  pub count_exactly : Here p next 125 → leb number 63 ≡ true → CountIs p at (Exactly number) (next + 1)
   count_exactly h l = (n.0, rw (n.1, h.rest, n.2, l) refl, n.2, onward_from (omega arith) (onward_next h))

@@ -12,20 +12,17 @@ use Rattle.grammar.specs.Sets.{names}
 use Rattle.grammar.specs.Code.Reader.{found, missing, and_then, only, read_escaped, inner_by, read_inner, read_named, range_by, read_range, item_by, read_item}
 use Rattle.grammar.specs.Code.Codes.{first_holds}
 use Rattle.grammar.proofs.Texts.{InsideOk, inside_ok}
-use Rattle.scanner.specs.Scanned.{Onward, ItemFound}
-use Rattle.scanner.specs.Parts.{InnerFound}
-use Rattle.scanner.specs.declared.Inner.{Inner}
-use Rattle.scanner.specs.declared.Inner.TheVariants.{Is, NoByte}
+use Rattle.std.specs.Prelude.{Option, Some, None}
+use Rattle.scanner.specs.Scanned.{Onward, ItemIs}
+use Rattle.scanner.specs.Parts.{InnerIs, InnerFound}
+use Rattle.scanner.specs.declared.Read.{Read}
 use Rattle.scanner.specs.declared.Item.TheVariants.{Range}
 use Rattle.scanner.proofs.Places.{Here, onward_next, onward_from, first_other}
 
 -- A byte of a class.
 module _ {p : List ℕ} {at b : ℕ} (h : Here p at b) where
-  pub escaped_marked : marked (inside b) ≡ true → InnerFound (read_escaped (drop at p)) p at (Is b (at + 1))
+  pub escaped_marked : marked (inside b) ≡ true → InnerIs (read_escaped (drop at p)) p at b (at + 1)
   escaped_marked e = (escaped b, rw (h.rest, e) refl, refl, onward_next h)
-
-  pub escaped_other : marked (inside b) ≡ false → read_escaped (drop at p) ≡ missing
-  escaped_other e = rw (h.rest, e) refl
 
   pub inner_marked : (b ≡ 92 → ⊥) → marked (inside b) ≡ true → read_inner (drop at p) ≡ missing
   inner_marked n e = rw h.rest (go (inside b) (inside_ok b) e)
@@ -38,7 +35,7 @@ module _ {p : List ℕ} {at b : ℕ} (h : Here p at b) where
       go caret o e = refl
       go dash o e = refl
 
-  pub inner_plain : marked (inside b) ≡ false → InnerFound (read_inner (drop at p)) p at (Is b (at + 1))
+  pub inner_plain : marked (inside b) ≡ false → InnerIs (read_inner (drop at p)) p at b (at + 1)
   inner_plain e = (plain b, rw h.rest (go (inside b) e), refl, onward_next h)
     where
       go : (k : Inside) → marked k ≡ false → inner_by k b (drop (at + 1) p) ≡ found (plain b) (drop (at + 1) p)
@@ -49,10 +46,10 @@ module _ {p : List ℕ} {at b : ℕ} (h : Here p at b) where
       go caret e = let z : ◌≡◌ {A = ℕ} 0 1 = cc in absurd (omega arith)
       go dash e = let z : ◌≡◌ {A = ℕ} 0 1 = cc in absurd (omega arith)
 
-pub inner_escape : {p : List ℕ} {at : ℕ} → Here p at 92 → (r : Inner) → InnerFound (read_escaped (drop (at + 1) p)) p (at + 1) r → InnerFound (read_inner (drop at p)) p at r
+pub inner_escape : {p : List ℕ} {at : ℕ} → Here p at 92 → (r : Option (Read ℕ)) → InnerFound (read_escaped (drop (at + 1) p)) p (at + 1) r → InnerFound (read_inner (drop at p)) p at r
 unfolding inside
-inner_escape h (Is b e) (x, f, v, o) = (x, rw h.rest f, v, onward_from (omega arith) o)
-inner_escape h NoByte f = rw h.rest f
+inner_escape h (Some r) (x, f, v, o) = (x, rw h.rest f, v, onward_from (omega arith) o)
+inner_escape h None f = rw h.rest f
 
 -- A range.
 pub range_single : (x : Byte) (s : List ℕ) → first_holds s 45 ≡ false → read_range x s ≡ found (single x) s
@@ -74,10 +71,10 @@ dashed x h = rw h.rest refl
 pub range_none : {p : List ℕ} {at : ℕ} (x : Byte) → Here p at 45 → read_inner (drop (at + 1) p) ≡ missing → read_range x (drop at p) ≡ missing
 range_none x h e = dashed x h ∙ rw e refl
 
-pub range_swapped : {p : List ℕ} {at low high e : ℕ} (x : Byte) → Here p at 45 → InnerFound (read_inner (drop (at + 1) p)) p (at + 1) (Is high e) → value x ≡ low → leb low high ≡ false → read_range x (drop at p) ≡ missing
+pub range_swapped : {p : List ℕ} {at low high e : ℕ} (x : Byte) → Here p at 45 → InnerIs (read_inner (drop (at + 1) p)) p (at + 1) high e → value x ≡ low → leb low high ≡ false → read_range x (drop at p) ≡ missing
 range_swapped x h (y, f, w, o) v l = dashed x h ∙ rw (f, v, w, l) refl
 
-pub range_found : {p : List ℕ} {at low high e : ℕ} (from : ℕ) (x : Byte) → Here p at 45 → InnerFound (read_inner (drop (at + 1) p)) p (at + 1) (Is high e) → value x ≡ low → Onward p from at → leb low high ≡ true → read_item (drop from p) ≡ read_range x (drop at p) → ItemFound p from (Range low high e)
+pub range_found : {p : List ℕ} {at low high e : ℕ} (from : ℕ) (x : Byte) → Here p at 45 → InnerIs (read_inner (drop (at + 1) p)) p (at + 1) high e → value x ≡ low → Onward p from at → leb low high ≡ true → read_item (drop from p) ≡ read_range x (drop at p) → ItemIs p from (Range low high) e
 range_found from x h (y, f, w, o) v k l q = (x, y, q ∙ dashed x h ∙ rw (f, v, w, l) refl, v, w, onward_from (omega arith) o)
 
 -- An item.
@@ -96,9 +93,6 @@ item_inner (b ∷ s) e = go (inside b) (inside_ok b)
     go opening o = absurd (first_other 91 b e o)
     go caret o = refl
     go dash o = refl
-
-pub item_read : (s : List ℕ) (x : Byte) (r : List ℕ) → first_holds s 91 ≡ false → read_inner s ≡ found x r → read_item s ≡ read_range x r
-item_read s x r e f = item_inner s e ∙ rw f refl
 
 pub item_none : (s : List ℕ) → first_holds s 91 ≡ false → read_inner s ≡ missing → read_item s ≡ missing
 item_none s e f = item_inner s e ∙ rw f refl

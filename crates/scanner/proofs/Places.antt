@@ -2,7 +2,7 @@
 -- Assumes nothing.
 use mathlib.Core.Path.{◌≡◌, refl, sym, ◌∙◌}
 use Prim.Native.Nat.{ℕ, ◌+◌, ◌≤◌, ◌<◌}
-use mathlib.Core.Bool.{Bool, true, false, not}
+use mathlib.Core.Bool.{Bool, true, false}
 use mathlib.Core.List.{List, [], ◌∷◌}
 use native.Mathlib.Omega.{arith}
 use native.Mathlib.Decide.{dec_lt}
@@ -10,9 +10,11 @@ use native.Mathlib.Numerals.{add-one}
 use lib.ListN.{length, get_or, drop, drop_of_length-le}
 use lib.Seq.{drop-cons}
 use lib.Dec.{eqb}
-use borrow.Author.Tests.{eqb-true, eqb-false, not-true, not-false}
+use borrow.Author.Tests.{eqb-true, eqb-false}
 use Rattle.grammar.specs.Code.Codes.{first_holds}
+use Rattle.std.specs.Prelude.{Some, None}
 use Rattle.scanner.specs.Scanned.{Onward}
+use Rattle.scanner.specs.Parts.{first_of}
 
 -- The byte b stands at the place.
 pub record Here (p : List ℕ) (at b : ℕ) : Type 0 where
@@ -29,6 +31,22 @@ first_here p at b e =
       | no h ↦ let z : first_holds [] b ≡ true = rw (drop_of_length-le p {i = at} (omega arith)) at e in let y : ◌≡◌ {A = ℕ} 0 1 = cc in absurd (omega arith)
     ]
 
+-- The byte that was read stands there.
+pub here_of : (p : List ℕ) (at b : ℕ) → Some b ≡ first_of (drop at p) → Here p at b
+here_of p at b e =
+    elim (dec_lt at (length p)) [
+      | yes h ↦
+          let z : Some b ≡ Some (get_or p at 0) = rw (stands p at h).rest at e in
+          let q : b ≡ get_or p at 0 = cc in
+          rw q (stands p at h)
+      | no h ↦ let z : Some b ≡ first_of [] = rw (drop_of_length-le p {i = at} (omega arith)) at e in let y : ◌≡◌ {A = ℕ} 0 1 = cc in absurd (omega arith)
+    ]
+
+-- None was read: the text ends before.
+pub none_of : (s : List ℕ) → None ≡ first_of s → s ≡ []
+none_of [] e = refl
+none_of (b ∷ s) e = let y : ◌≡◌ {A = ℕ} 0 1 = cc in absurd (omega arith)
+
 -- Another byte stands first.
 pub first_other : (b c : ℕ) → eqb b c ≡ false → c ≡ b → ⊥
 first_other b c e q = eqb-false b c e (sym q)
@@ -43,9 +61,3 @@ onward_from l o = record { forward = omega arith; inside = o.inside }
 -- What a test says that a function's answer is: r is the answer, and x what it stands for.
 pub seen : {r x y : Bool} → r ≡ x → r ≡ y → x ≡ y
 seen e t = sym e ∙ t
-
-pub unseen : {r x : Bool} → r ≡ x → not r ≡ true → x ≡ false
-unseen {r} e t = sym e ∙ not-true r t
-
-pub still_seen : {r x : Bool} → r ≡ x → not r ≡ false → x ≡ true
-still_seen {r} e t = sym e ∙ not-false r t

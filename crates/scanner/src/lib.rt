@@ -2,248 +2,181 @@
 // No function reads past the text, and each has an answer for every place.
 #![tactic(auto)]
 
-ghost use Rattle.std.specs.Prelude.{◌≡◌, ◌||◌, ◌<◌, get_or, drop};
+ghost use Rattle.std.specs.Prelude.{◌≡◌, ◌<◌, eqb, get_or, drop};
+ghost use Rattle.std.specs.List.{starts_with};
 ghost use Rattle.grammar.specs.Grammar.{kind, special, inside, marked};
 ghost use Rattle.grammar.specs.Sets.{is_on, spans};
 ghost use Rattle.grammar.specs.Code.Reader.{read_escaped, read_inner, read_class};
 ghost use Rattle.grammar.specs.Code.Codes.{first_holds, found_holds, leaf_holds};
 ghost use Rattle.scanner.specs.Scanned.{ItemFound, ClassFound, CountFound};
-ghost use Rattle.scanner.specs.Parts.{begins, named_or, InnerFound, RangeFound, NamedFound, ItemTaken, ItemsTaken, AllTaken, ClassHeld, NumberFound, LeastFound, SecondFound};
+ghost use Rattle.scanner.specs.Parts.{first_of, named_at, digit_of, InnerFound, RangeFound, NamedFound, ItemTaken, ItemsTaken, AllTaken, ClassHeld, NumberFound, LeastFound, SecondFound};
 
 // A count is of at most 63 times.
 const MOST_TIMES: usize = 63;
 
-// An item of a class, and the place after it.
-#[derive(Clone, Copy)]
+// What stands at a place, and the place after it.
+#[derive(Clone, Copy, PartialEq, Eq)]
+pub struct Read<T> {
+    pub value: T,
+    pub next: usize,
+}
+
+// An item of a class.
+#[derive(Clone, Copy, PartialEq, Eq)]
 pub enum Item {
-    Single { byte: u8, next: usize },
-    Range { low: u8, high: u8, next: usize },
-    Named { bit: u8, next: usize },
-    NoItem,
+    Single { byte: u8 },
+    Range { low: u8, high: u8 },
+    Named { bit: u8 },
 }
 
-// The place after a class, if it is one.
-#[derive(Clone, Copy)]
-pub enum Class {
-    Ends { next: usize },
-    NoClass,
-}
-
-// A count, and the place after it.
-#[derive(Clone, Copy)]
+// A count.
+#[derive(Clone, Copy, PartialEq, Eq)]
 pub enum Count {
-    Exactly {
-        times: usize,
-        next: usize,
-    },
-    AtLeast {
-        times: usize,
-        next: usize,
-    },
-    Between {
-        least: usize,
-        most: usize,
-        next: usize,
-    },
-    NoCount,
-}
-
-// A byte of a class, bare or escaped, and the place after it.
-#[derive(Clone, Copy)]
-enum Inner {
-    Is { value: u8, next: usize },
-    NoByte,
-}
-
-// One or two digits, and the place after them.
-#[derive(Clone, Copy)]
-enum Number {
-    Value { number: usize, next: usize },
-    NoNumber,
-}
-
-// Items of a class: the place after them, and whether one of them holds the byte that is asked for.
-#[derive(Clone, Copy)]
-enum Listed {
-    Upto { next: usize, holds: bool },
-    Faulty,
+    Exactly { times: usize },
+    AtLeast { times: usize },
+    Between { least: usize, most: usize },
 }
 
 // Whether b is from low to high.
 fn within(low: u8, high: u8, b: u8) -> bool
     ensures { result ≡ spans low high b }
 {
-    if b < low {
-        return false;
-    }
-    b <= high
+    (low..=high).contains(&b)
 }
 
 // Special outside a class: `( ) * +`, `[ \ ] ^`, `{ | }`, `$`, `.` and `?`.
+#[tactic(auto, using(crate::proofs::Bytes::special_byte, std::proofs::lemmas::Bool::Decides::nat_tests))]
 pub fn is_special(b: u8) -> bool
     ensures { result ≡ special (kind b) }
 {
-    if within(b'(', b'+', b) {
-        return true;
-    }
-    if within(b'[', b'^', b) {
-        return true;
-    }
-    if within(b'{', b'}', b) {
-        return true;
-    }
-    if b == b'$' {
-        return true;
-    }
-    if b == b'.' {
-        return true;
-    }
-    b == b'?'
+    matches!(
+        b,
+        b'('..=b'+' | b'['..=b'^' | b'{'..=b'}' | b'$' | b'.' | b'?'
+    )
 }
 
 // Inside a class only a `\` makes these a byte of it: `[ \ ] ^` and `-`.
+#[tactic(auto, using(crate::proofs::Bytes::marked_byte, std::proofs::lemmas::Bool::Decides::nat_tests))]
 fn is_marked(b: u8) -> bool
     ensures { result ≡ marked (inside b) }
 {
-    if within(b'[', b'^', b) {
-        return true;
-    }
-    b == b'-'
+    matches!(b, b'['..=b'^' | b'-')
+}
+
+// The byte at a place.
+fn byte_at(s: &[u8], at: usize) -> Option<u8>
+    ensures { result ≡ first_of (drop at s.now) }
+{
+    s.get(at).copied()
 }
 
 // Whether the byte at a place is b.
 pub fn has_byte(s: &[u8], at: usize, b: u8) -> bool
     ensures here { result ≡ first_holds (drop at s.now) b }
 {
-    if s.len() <= at {
-        return false;
-    }
-    b == s[at]
+    s.get(at) == Some(&b)
 }
 
 // Whether the bytes of the name stand at a place.
 fn same_at(s: &[u8], at: usize, name: &[u8]) -> bool
-    ensures { result ≡ begins name.now (drop at s.now) }
+    ensures { result ≡ starts_with eqb (drop at s.now) name.now }
 {
-    let mut i = 0;
-    let mut k = at;
-    while i < name.len() {
-        if !has_byte(s, k, name[i]) {
-            return false;
-        }
-        i += 1;
-        k += 1;
-    }
-    true
+    s[at.min(s.len())..].starts_with(name)
 }
 
 // The byte after a `\`.
-fn read_escaped(s: &[u8], at: usize) -> Inner
+fn read_escaped(s: &[u8], at: usize) -> Option<Read<u8>>
     ensures { InnerFound (read_escaped (drop at s.now)) s.now at result }
 {
-    if s.len() <= at {
-        return Inner::NoByte;
-    }
-    let b = s[at];
+    let b = byte_at(s, at)?;
     if is_marked(b) {
-        return Inner::Is {
+        return Some(Read {
             value: b,
             next: at + 1,
-        };
+        });
     }
-    Inner::NoByte
+    None
 }
 
 // A byte of a class: bare, or after a `\`.
-fn read_inner(s: &[u8], at: usize) -> Inner
+fn read_inner(s: &[u8], at: usize) -> Option<Read<u8>>
     ensures { InnerFound (read_inner (drop at s.now)) s.now at result }
 {
-    if s.len() <= at {
-        return Inner::NoByte;
-    }
-    let b = s[at];
+    let b = byte_at(s, at)?;
     if b == b'\\' {
         return read_escaped(s, at + 1);
     }
     if is_marked(b) {
-        return Inner::NoByte;
+        return None;
     }
-    Inner::Is {
-        value: b,
-        next: at + 1,
-    }
+    let next = at + 1;
+    Some(Read { value: b, next })
 }
 
 // After the byte low: a range if `-` follows.
-fn read_range(s: &[u8], at: usize, low: u8) -> Item
+fn read_range(s: &[u8], at: usize, low: u8) -> Option<Read<Item>>
     ensures { RangeFound s.now at low result }
 {
     if !has_byte(s, at, b'-') {
-        return Item::Single {
-            byte: low,
+        return Some(Read {
+            value: Item::Single { byte: low },
             next: at,
-        };
+        });
     }
-    let last = read_inner(s, at + 1);
-    let Inner::Is { value: high, next } = last else {
-        return Item::NoItem;
-    };
+    let last = read_inner(s, at + 1)?;
+    let high = last.value;
     if low <= high {
-        return Item::Range { low, high, next };
+        return Some(Read {
+            value: Item::Range { low, high },
+            next: last.next,
+        });
     }
-    Item::NoItem
+    None
 }
 
-// The named set if its name stands at a place, else the other item.
-fn named_or(s: &[u8], at: usize, name: &[u8], bit: u8, other: Item) -> Item
-    ensures { result ≡ named_or s.now at name.now bit other }
+// The named set if its name stands at a place.
+fn named(s: &[u8], at: usize, name: &[u8], bit: u8) -> Option<Read<Item>>
+    ensures { result ≡ named_at s.now at name.now bit }
 {
     if same_at(s, at, name) {
-        return Item::Named {
-            bit,
+        return Some(Read {
+            value: Item::Named { bit },
             next: at + name.len(),
-        };
+        });
     }
-    other
+    None
 }
 
-// A named set, from after its `[`. The names are tried from the last to the first.
-fn read_named(s: &[u8], at: usize) -> Item
+// A named set, from after its `[`. The bits are those of a table's entries.
+fn read_named(s: &[u8], at: usize) -> Option<Read<Item>>
     ensures { NamedFound s.now at result }
 {
-    let item = named_or(s, at, b":punct:]", 1, Item::NoItem);
-    let item = named_or(s, at, b":space:]", 2, item);
-    let item = named_or(s, at, b":xdigit:]", 4, item);
-    let item = named_or(s, at, b":lower:]", 8, item);
-    let item = named_or(s, at, b":upper:]", 16, item);
-    let item = named_or(s, at, b":alnum:]", 32, item);
-    let item = named_or(s, at, b":digit:]", 64, item);
-    named_or(s, at, b":alpha:]", 128, item)
+    named(s, at, b":alpha:]", 128)
+        .or(named(s, at, b":digit:]", 64))
+        .or(named(s, at, b":alnum:]", 32))
+        .or(named(s, at, b":upper:]", 16))
+        .or(named(s, at, b":lower:]", 8))
+        .or(named(s, at, b":xdigit:]", 4))
+        .or(named(s, at, b":space:]", 2))
+        .or(named(s, at, b":punct:]", 1))
 }
 
 // The item of a class at a place.
-pub fn read_item(s: &[u8], at: usize) -> Item
+pub fn read_item(s: &[u8], at: usize) -> Option<Read<Item>>
     ensures found { ItemFound s.now at result }
 {
     if has_byte(s, at, b'[') {
         return read_named(s, at + 1);
     }
-    let first = read_inner(s, at);
-    let Inner::Is { value, next } = first else {
-        return Item::NoItem;
-    };
-    read_range(s, next, value)
+    let first = read_inner(s, at)?;
+    read_range(s, first.next, first.value)
 }
 
 // The named sets that hold b, as bits. A byte that has no entry is in none.
 fn set_bits(loaded: &[u8], b: u8) -> u8
     ensures { result ≡ get_or loaded.now b 0 }
 {
-    let i = words::wide(b);
-    if loaded.len() <= i {
-        return 0;
-    }
-    loaded[i]
+    loaded.get(usize::from(b)).copied().unwrap_or(0)
 }
 
 // Whether the named set of the bit holds b.
@@ -254,207 +187,186 @@ fn in_set(loaded: &[u8], bit: u8, b: u8) -> bool
     set_bits(loaded, b) / bit % 2 == 1
 }
 
-// One item more, after items of which one holds b if held.
-fn take_item(loaded: &[u8], s: &[u8], at: usize, b: u8, held: bool) -> Listed
+// One item more, after items of which one holds b if held: whether one of all does.
+fn take_item(loaded: &[u8], s: &[u8], at: usize, b: u8, held: bool) -> Option<Read<bool>>
     ensures { ItemTaken loaded.now s.now at b held result }
 {
-    let item = read_item(s, at);
-    match item {
-        Item::Single { byte, next } => Listed::Upto {
+    let item = read_item(s, at)?;
+    let next = item.next;
+    match item.value {
+        Item::Single { byte } => Some(Read {
+            value: held | (b == byte),
             next,
-            holds: words::either(held, b == byte),
-        },
-        Item::Range { low, high, next } => Listed::Upto {
+        }),
+        Item::Range { low, high } => Some(Read {
+            value: held | within(low, high, b),
             next,
-            holds: words::either(held, within(low, high, b)),
-        },
-        Item::Named { bit, next } => Listed::Upto {
+        }),
+        Item::Named { bit } => Some(Read {
+            value: held | in_set(loaded, bit, b),
             next,
-            holds: words::either(held, in_set(loaded, bit, b)),
-        },
-        Item::NoItem => Listed::Faulty,
+        }),
     }
 }
 
-// The items up to the `]` that ends the class.
-fn take_items(loaded: &[u8], s: &[u8], at: usize, b: u8, held: bool) -> Listed
+// The items up to the `]` that ends the class. An item has no fixed length, so the place moves by what was read.
+fn take_items(loaded: &[u8], s: &[u8], at: usize, b: u8, held: bool) -> Option<Read<bool>>
     ensures { ItemsTaken loaded.now s.now at b held result }
 {
     let mut i = at;
     let mut holds = held;
     while i < s.len() {
         if s[i] == b']' {
-            return Listed::Upto { next: i + 1, holds };
+            return Some(Read {
+                value: holds,
+                next: i + 1,
+            });
         }
-        let item = take_item(loaded, s, i, b, holds);
-        let Listed::Upto { next, holds: more } = item else {
-            return Listed::Faulty;
-        };
-        i = next;
-        holds = more;
+        let item = take_item(loaded, s, i, b, holds)?;
+        i = item.next;
+        holds = item.value;
     }
-    Listed::Faulty
+    None
 }
 
 // The items of a class, one or more.
-fn take_all(loaded: &[u8], s: &[u8], at: usize, b: u8) -> Listed
+fn take_all(loaded: &[u8], s: &[u8], at: usize, b: u8) -> Option<Read<bool>>
     ensures { AllTaken loaded.now s.now at b result }
 {
-    let first = take_item(loaded, s, at, b, false);
-    let Listed::Upto { next, holds } = first else {
-        return Listed::Faulty;
-    };
-    take_items(loaded, s, next, b, holds)
+    let first = take_item(loaded, s, at, b, false)?;
+    take_items(loaded, s, first.next, b, first.value)
 }
 
 // A class, from after its `[`, and whether it holds b.
-fn class_at(loaded: &[u8], s: &[u8], at: usize, b: u8) -> Listed
+fn class_at(loaded: &[u8], s: &[u8], at: usize, b: u8) -> Option<Read<bool>>
     ensures { ClassHeld loaded.now s.now at b result }
 {
     if !has_byte(s, at, b'^') {
         return take_all(loaded, s, at, b);
     }
-    let items = take_all(loaded, s, at + 1, b);
-    let Listed::Upto { next, holds } = items else {
-        return Listed::Faulty;
-    };
-    Listed::Upto {
-        next,
-        holds: !holds,
-    }
+    let items = take_all(loaded, s, at + 1, b)?;
+    Some(Read {
+        value: !items.value,
+        next: items.next,
+    })
 }
 
 // The place after a class, from after its `[`. What the class holds does not matter here, so it is asked for any byte, by no table.
-pub fn read_class(s: &[u8], at: usize) -> Class
+pub fn read_class(s: &[u8], at: usize) -> Option<usize>
     ensures found { ClassFound s.now at result }
 {
-    let class = class_at(b"", s, at, 0);
-    let Listed::Upto { next, holds: _ } = class else {
-        return Class::NoClass;
-    };
-    Class::Ends { next }
+    let class = class_at(b"", s, at, 0)?;
+    Some(class.next)
 }
 
 // A class that is not one holds no byte.
 fn class_holds(loaded: &[u8], s: &[u8], at: usize, b: u8) -> bool
     ensures { result ≡ found_holds loaded.now (read_class (drop at s.now)) b }
 {
-    let class = class_at(loaded, s, at, b);
-    let Listed::Upto { next: _, holds } = class else {
-        return false;
-    };
-    holds
+    match class_at(loaded, s, at, b) {
+        Some(class) => class.value,
+        None => false,
+    }
 }
 
 // Whether the leaf at a place holds b: a byte after `\`, a class, `.`, or a byte that is not special. What is no leaf holds nothing.
+// The table that is loaded and the text are two parameters here and in what calls this: each call may have another table.
 pub fn leaf_holds(loaded: &[u8], s: &[u8], at: usize, b: u8) -> bool
     ensures member { result ≡ leaf_holds loaded.now (drop at s.now) b }
 {
-    if s.len() <= at {
+    let Some(first) = byte_at(s, at) else {
         return false;
+    };
+    match first {
+        b'\\' => has_byte(s, at + 1, b),
+        b'[' => class_holds(loaded, s, at + 1, b),
+        b'.' => b != b'\n',
+        c => !is_special(c) && b == c,
     }
-    let c = s[at];
-    if c == b'\\' {
-        return has_byte(s, at + 1, b);
+}
+
+// The value of the digit at a place.
+fn digit(s: &[u8], at: usize) -> Option<usize>
+    ensures { result ≡ digit_of (drop at s.now) }
+{
+    let b = byte_at(s, at)?;
+    if b.is_ascii_digit() {
+        return Some(usize::from(b - b'0'));
     }
-    if c == b'[' {
-        return class_holds(loaded, s, at + 1, b);
-    }
-    if c == b'.' {
-        return b != b'\n';
-    }
-    if is_special(c) {
-        return false;
-    }
-    b == c
+    None
 }
 
 // One or two digits.
-fn read_digits(s: &[u8], at: usize) -> Number
+fn read_digits(s: &[u8], at: usize) -> Option<Read<usize>>
     ensures { NumberFound s.now at result }
 {
-    if s.len() <= at {
-        return Number::NoNumber;
-    }
-    let b = s[at];
-    if !within(b'0', b'9', b) {
-        return Number::NoNumber;
-    }
-    let tens = words::wide(b - b'0');
+    let tens = digit(s, at)?;
     let next = at + 1;
-    if s.len() <= next {
-        return Number::Value { number: tens, next };
-    }
-    let c = s[next];
-    if !within(b'0', b'9', c) {
-        return Number::Value { number: tens, next };
-    }
-    let ones = words::wide(c - b'0');
-    Number::Value {
-        number: 10 * tens + ones,
+    let Some(ones) = digit(s, next) else {
+        return Some(Read { value: tens, next });
+    };
+    Some(Read {
+        value: 10 * tens + ones,
         next: at + 2,
-    }
+    })
 }
 
 // After the `,` of a count whose first number is m, with no second number.
-fn at_least(s: &[u8], at: usize, m: usize) -> Count
+fn at_least(s: &[u8], at: usize, m: usize) -> Option<Read<Count>>
     ensures { LeastFound s.now at m result }
 {
     if !has_byte(s, at, b'}') {
-        return Count::NoCount;
+        return None;
     }
     if MOST_TIMES < m {
-        return Count::NoCount;
+        return None;
     }
-    Count::AtLeast {
-        times: m,
+    Some(Read {
+        value: Count::AtLeast { times: m },
         next: at + 1,
-    }
+    })
 }
 
 // After the `,` of a count whose first number is m.
-fn second(s: &[u8], at: usize, m: usize) -> Count
+fn second(s: &[u8], at: usize, m: usize) -> Option<Read<Count>>
     ensures { SecondFound s.now at m result }
 {
-    let last = read_digits(s, at);
-    let Number::Value { number, next } = last else {
+    let Some(last) = read_digits(s, at) else {
         return at_least(s, at, m);
     };
-    if !has_byte(s, next, b'}') {
-        return Count::NoCount;
+    let most = last.value;
+    if !has_byte(s, last.next, b'}') {
+        return None;
     }
-    if number < m {
-        return Count::NoCount;
+    if most < m {
+        return None;
     }
-    if MOST_TIMES < number {
-        return Count::NoCount;
+    if MOST_TIMES < most {
+        return None;
     }
-    Count::Between {
-        least: m,
-        most: number,
-        next: next + 1,
-    }
+    Some(Read {
+        value: Count::Between { least: m, most },
+        next: last.next + 1,
+    })
 }
 
 // A count, from after its `{`.
-pub fn read_count(s: &[u8], at: usize) -> Count
+pub fn read_count(s: &[u8], at: usize) -> Option<Read<Count>>
     ensures found { CountFound s.now at result }
 {
-    let first = read_digits(s, at);
-    let Number::Value { number, next } = first else {
-        return Count::NoCount;
-    };
-    if has_byte(s, next, b',') {
-        return second(s, next + 1, number);
+    let first = read_digits(s, at)?;
+    let times = first.value;
+    if has_byte(s, first.next, b',') {
+        return second(s, first.next + 1, times);
     }
-    if !has_byte(s, next, b'}') {
-        return Count::NoCount;
+    if !has_byte(s, first.next, b'}') {
+        return None;
     }
-    if MOST_TIMES < number {
-        return Count::NoCount;
+    if MOST_TIMES < times {
+        return None;
     }
-    Count::Exactly {
-        times: number,
-        next: next + 1,
-    }
+    Some(Read {
+        value: Count::Exactly { times },
+        next: first.next + 1,
+    })
 }

@@ -25,7 +25,7 @@ use Rattle.table.proofs.Laws.{slot_there}
 use Rattle.search.specs.declared.Progress.{Progress}
 use Rattle.search.specs.declared.Progress.TheVariants.{Clear, Witness, Full}
 use Rattle.search.specs.declared.Course.{Course}
-use Rattle.search.specs.Looking.{Takes}
+use Rattle.search.specs.Looking.{no_looking, Takes}
 use Rattle.search.specs.Ends.{AllFound, Reached, Searched}
 use Rattle.search.specs.Turns.{Grouping, CameTo, Slotted, Run}
 use Rattle.search.proofs.Looks.{slots_are_due, slots_inside}
@@ -49,20 +49,24 @@ searched {t₀ = t₀} {t} {x} f = record { ends = λ {r} l e. ends r x.progress
     taken r (Witness n) (h, g) = g
     taken r Full (h, g) = g
 
+-- The slots are those of the table that is lent.
+pub slots_seen : {w w' m : ℕ} {t t' : List ℕ} → w' ≡ w → t' ≡ t → m ≡ min (slot_count w' (length t')) 65535 → m ≡ min (slot_count w (length t)) 65535
+slots_seen e f g = g ∙ ap₂ (λ w t. min (slot_count w (length t)) 65535) e f
+
 module _ {a : Arrays} {w : ℕ} {t₀ : List ℕ} {m : ℕ} (e : m ≡ min (slot_count w (length t₀)) 65535) where
   slotted : {r : Re} → Lent r a → w ≡ (form_of r).bytes → Slotted r t₀ w m
   slotted {r} l f = record { width = f; number = e ∙ ap (λ z. min (slot_count z (length t₀)) 65535) f ∙ slots_are_due r l.most (length t₀) }
 
-  pub search_nowhere : m ≡ 0 → Searched a w t₀ (record { progress = Full; looking = record { looks = 0; comparisons = 0 } }) t₀
+  pub search_nowhere : m ≡ 0 → Searched a w t₀ (record { progress = Full; looking = no_looking }) t₀
   search_nowhere z = searched λ r l f. no_slot r l.numbered (sym (slotted l f).number ∙ z)
 
-  pub search_run : {g : Groups} {s : Standing} {v t₁ : List ℕ} {x : Course} {t : List ℕ} → 0 < m → g ≡ groups_by (same a.masks) → First a s → Packed s 0 0 v → t₁ ≡ put w t₀ 0 v
-      → Run (Grouping a.masks g.lowest g.count) a w m t₁ x t → Searched a w t₀ x t
-  search_run {g} {s} {v} {x = x} {t} h grouped first packed stored run = searched λ r l f.
+  pub search_run : {g : Groups} {low : List ℕ} {s : Standing} {v t₁ : List ℕ} {x : Course} {t : List ℕ} → 0 < m → g ≡ groups_by (same a.masks) → low ≡ take g.count g.lowest → First a s → Packed s 0 0 v → t₁ ≡ put w t₀ 0 v
+      → Run (Grouping a.masks low) a w m t₁ x t → Searched a w t₀ x t
+  search_run {g} {low} {s} {v} {x = x} {t} h grouped slice first packed stored run = searched λ r l f.
       let number = (slotted l f).number in
       let is : take (form_of r).bytes v ≡ record_bytes (form_of r) (standing r []) 0 0 = ap (take (form_of r).bytes) (packed.is l.most (first.stands l)) ∙ take_held (form_of r) (standing r []) 0 0 in
       let room : 0 < slots (form_of r) (length t₀) = omega arith in
       let there : put (form_of r).bytes t₀ 0 v ≡ stores t₀ ((form_of r).bytes * 0) (take (form_of r).bytes v) = slot_there (form_of r).bytes t₀ 0 _ t₀ (omega (arith, slots_inside r l.most (length t₀))) in
       subst (λ k. CameTo r t₀ t x.looking (λ n. AllFound r t₀ n t × Takes r k x.looking) x.progress) number
-      (run.leads (ap (λ x. x.lowest) grouped, ap (λ x. x.count) grouped) l (slotted l f)
+      (run.leads (slice ∙ ap (λ x. take x.count x.lowest) grouped) l (slotted l f)
       (first_record r room (stored ∙ ap (λ z. put z t₀ 0 v) f ∙ there ∙ ap₂ (stores t₀) (mul-zero (form_of r).bytes) is)))

@@ -1,11 +1,13 @@
 -- What a byte leads to from a record: the cases of `carry`, by what the next standing, its record and the look are.
 -- Assumes nothing.
-use mathlib.Core.Path.{◌≡◌, sym, ap, ◌∙◌, subst}
+use mathlib.Core.Path.{◌≡◌, refl, sym, ap, ap₂, ◌∙◌, subst}
 use mathlib.Core.Logic.{◌≢◌}
 use Prim.Native.Nat.{ℕ, suc, ◌+◌, ◌*◌, ◌≤◌, ◌<◌, min}
-use mathlib.Core.Bool.{Bool, true, false, true≢false, not, ◌&&◌, cond}
+use mathlib.Core.Bool.{true, false, true≢false, not, ◌&&◌}
 use mathlib.Core.List.{List}
 use native.Mathlib.Omega.{arith}
+use Rattle.std.proofs.Common.{Result, Ok, Err}
+use Rattle.std.specs.Result.{is_ok}
 use lib.ListN.{length, take}
 use lib.Seq.{sets as stores}
 use Rattle.theory.specs.Pattern.{Re}
@@ -32,6 +34,15 @@ use Rattle.search.specs.Turns.{more, Working, Slotted, Turned}
 use Rattle.search.proofs.Looks.{slots_inside, same_length, found, not_found}
 use Rattle.search.proofs.Turns.{line, known_turn, full_turn, new_turn, witness_turn}
 
+-- A look that found none has a number all the same.
+missing : (x : Result ℕ ℕ) → is_ok x ≡ false → (i : ℕ) × (x ≡ Err i)
+missing (Ok i) f = absurd (true≢false f)
+missing (Err i) f = (i, refl)
+
+-- The look is through the table that is lent.
+pub seen : {w w' : ℕ} {t t' : List ℕ} (n : ℕ) (v : List ℕ) {k : Look} → w' ≡ w → t' ≡ t → k ≡ look w' t' (min n (slot_count w' (length t'))) (take w' v) → k ≡ look w t (min n (slot_count w (length t))) (take w v)
+seen n v e f looked = looked ∙ ap₂ (λ w t. look w t (min n (slot_count w (length t))) (take w v)) e f
+
 module _ (w : ℕ) {a : Arrays} {s after : Standing} {q c n : ℕ} {y z : Looking} {t v : List ℕ} {k : Look} (carried : Carried a s c after) (packed : Packed after q c v)
     (looked : k ≡ look w t (min n (slot_count w (length t))) (take w v)) (counted : z ≡ more y k.compared) where
   module _ {r : Re} {t₀ : List ℕ} (l : Lent r a) (x : Working r t₀ s q c n y t) where
@@ -49,19 +60,27 @@ module _ (w : ℕ) {a : Arrays} {s after : Standing} {q c n : ℕ} {y z : Lookin
     looked_for_lem e =
         looked ∙ ap (λ z. look z t (min n (slot_count z (length t))) (take z v)) e ∙ ap (look (form_of r).bytes t (min n (slot_count (form_of r).bytes (length t)))) recorded
 
-  -- A record has the standing.
-  pub carry_known : {m : ℕ} → k.found ≡ true → Turned a s q c n w m y t (record { progress = Clear n; looking = z }) t
-  carry_known e = record {
+  -- Record i has the standing.
+  known_one : {m : ℕ} (i : ℕ) → k.number ≡ Ok i → Turned a s q c n w m y t (record { progress = Clear n; looking = z }) t
+  known_one i e = record {
     within = λ g. g;
     leads = λ {r} {t₀} l f byte lowest x.
-        let (inside, has, before, compared) = found r x.state.holds l.most l.numbered (line x) q c x.state.size (looked_for_lem l x f.width) e in
-        subst (λ z. Working r t₀ s q (suc c) n z t) (sym (counted ∙ ap (more y) compared)) (known_turn l.numbered x byte lowest k.number inside has before);
+        let (inside, has, before, compared) = found r x.state.holds l.most l.numbered (line x) q c x.state.size (looked_for_lem l x f.width) i e in
+        subst (λ z. Working r t₀ s q (suc c) n z t) (sym (counted ∙ ap (more y) compared)) (known_turn l.numbered x byte lowest i inside has before);
   }
 
-  module _ (h : k.found ≡ false) where
+  pub carry_known : {m : ℕ} → is_ok k.number ≡ true → Turned a s q c n w m y t (record { progress = Clear n; looking = z }) t
+  carry_known e = go k.number refl e
+    where
+      go : {m : ℕ} (x : Result ℕ ℕ) → k.number ≡ x → is_ok x ≡ true → Turned a s q c n w m y t (record { progress = Clear n; looking = z }) t
+      go (Ok i) f g = known_one i f
+      go (Err i) f g = absurd (true≢false (sym g))
+
+  module _ (h : is_ok k.number ≡ false) where
     none : {r : Re} {t₀ : List ℕ} (l : Lent r a) (x : Working r t₀ s q c n y t) → w ≡ (form_of r).bytes → ((j : ℕ) → j < n → standing r (at x.state.lines j) ≢ standing r (line x)) × (z ≡ more y n)
     none {r} l x e =
-        let (lacks, compared) = not_found r x.state.holds l.most l.numbered (line x) q c x.state.size (looked_for_lem l x e) h in
+        let (i, lost) = missing k.number h in
+        let (lacks, compared) = not_found r x.state.holds l.most l.numbered (line x) q c x.state.size (looked_for_lem l x e) i lost in
         (lacks, counted ∙ ap (more y) compared)
 
     -- None has, and no slot is left.
@@ -82,7 +101,7 @@ module _ (w : ℕ) {a : Arrays} {s after : Standing} {q c n : ℕ} {y z : Lookin
           ∙ slot_there (form_of r).bytes t n _ t (omega (arith, same_length r x.state.holds, slots_inside r l.most (length t), ap (slots (form_of r)) (same_length r x.state.holds), f.number))
           ∙ ap (stores t ((form_of r).bytes * n)) (recorded l x)
 
-      carry_new : (after.some && not after.first) ≡ false → Turned a s q c n w m y t (record { progress = Clear (n + 1); looking = z }) t'
+      pub carry_new : (after.some && not after.first) ≡ false → Turned a s q c n w m y t (record { progress = Clear (n + 1); looking = z }) t'
       carry_new e = record {
         within = λ i. omega arith;
         leads = λ {r} {t₀} l f byte lowest x.
@@ -93,7 +112,7 @@ module _ (w : ℕ) {a : Arrays} {s after : Standing} {q c n : ℕ} {y z : Lookin
             (new_turn l.numbered x byte lowest lacks (omega (arith, f.number)) (written l f x) (λ i. true≢false (sym (T_true _ i) ∙ shows l x ∙ e))));
       }
 
-      carry_witness : (after.some && not after.first) ≡ true → Turned a s q c n w m y t (record { progress = Witness (n + 1); looking = z }) t'
+      pub carry_witness : (after.some && not after.first) ≡ true → Turned a s q c n w m y t (record { progress = Witness (n + 1); looking = z }) t'
       carry_witness e = record {
         within = tt;
         leads = λ {r} {t₀} l f byte lowest x.
@@ -103,7 +122,3 @@ module _ (w : ℕ) {a : Arrays} {s after : Standing} {q c n : ℕ} {y z : Lookin
             (subst (λ k. WitnessFound r t₀ k t' × Takes r (slots (form_of r) (length t₀)) (more y n)) more-records
             (witness_turn l.numbered x byte lowest lacks (omega (arith, f.number)) (written l f x) (true_T _ (shows l x ∙ e))));
       }
-
-      pub carry_entered : (b : Bool) {p : Progress} → b ≡ (after.some && not after.first) → p ≡ cond b (Witness (n + 1)) (Clear (n + 1)) → Turned a s q c n w m y t (record { progress = p; looking = z }) t'
-      carry_entered true e f = subst (λ p. Turned a s q c n w m y t (record { progress = p; looking = z }) t') (sym f) (carry_witness (sym e))
-      carry_entered false e f = subst (λ p. Turned a s q c n w m y t (record { progress = p; looking = z }) t') (sym f) (carry_new (sym e))

@@ -6,6 +6,7 @@ use Prim.Native.Nat.{ℕ, ◌+◌, ◌≤◌, ◌<◌, min}
 use mathlib.Core.Bool.{true, false, true≢false}
 use mathlib.Core.List.{List}
 use native.Mathlib.Omega.{arith}
+use Rattle.std.proofs.Common.{Ok, Err}
 use native.Mathlib.Nat.{min-eq_left, min-le_left}
 use lib.ListN.{length}
 use Rattle.theory.specs.Pattern.{Re, count, Numbered}
@@ -69,16 +70,16 @@ module _ (r : Re) {t₀ : List ℕ} {L : List (List ℕ)} {t : List ℕ} (h : Ho
           (sym (subst (λ z. same_standing (form_of r).bytes (record_bytes (form_of r) s origin (last_byte (at L j))) (record_bytes (form_of r) z o b) ≡ true) e (same_agree (form_of r) (narrow_least (count r)) s origin (last_byte (at L j)) o b))
           ∙ subst (λ v. same_standing (form_of r).bytes v wanted ≡ false) (slot_record j l) f)
 
-      -- Found: a record has the standing, none before it has, and one more than its number were compared.
-      pub found : x.found ≡ true
-          → (x.number < n) × (standing r (at L x.number) ≡ standing r w) × ((j : ℕ) → j < x.number → standing r (at L j) ≢ standing r w) × (x.compared ≡ x.number + 1)
-      found e =
-          let y = subst (First (form_of r).bytes t wanted 0 n) is (look_first (form_of r).bytes t wanted n (ap (λ z. z.found) is ∙ e)) in
-          let inside : x.number < n = omega (arith, y.inside) in
-          (inside, tells x.number (omega arith) y.same, λ j l. denies j (omega arith) (y.before j (omega arith) l), y.compared)
+      -- Found: record i has the standing, none before it has, and one more than its number were compared.
+      pub found : (i : ℕ) → x.number ≡ Ok i
+          → (i < n) × (standing r (at L i) ≡ standing r w) × ((j : ℕ) → j < i → standing r (at L j) ≢ standing r w) × (x.compared ≡ i + 1)
+      found i e =
+          let y = subst (λ z. First (form_of r).bytes t wanted 0 n z i) is (look_first (form_of r).bytes t wanted n i (ap (λ z. z.number) is ∙ e)) in
+          let inside : i < n = omega (arith, y.inside) in
+          (inside, tells i (omega arith) y.same, λ j l. denies j (omega arith) (y.before j (omega arith) l), y.compared)
 
       -- Not found: none has, and all of them were compared.
-      pub not_found : x.found ≡ false → ((j : ℕ) → j < n → standing r (at L j) ≢ standing r w) × (x.compared ≡ n)
-      not_found e =
-          let y = subst (None (form_of r).bytes t wanted 0 n) is (look_none (form_of r).bytes t wanted n (ap (λ z. z.found) is ∙ e)) in
+      pub not_found : (i : ℕ) → x.number ≡ Err i → ((j : ℕ) → j < n → standing r (at L j) ≢ standing r w) × (x.compared ≡ n)
+      not_found i e =
+          let y = subst (None (form_of r).bytes t wanted 0 n) is (look_none (form_of r).bytes t wanted n i (ap (λ z. z.number) is ∙ e)) in
           (λ j l. denies j (omega arith) (y.none j (omega arith) (omega arith)), omega (arith, y.compared))

@@ -25,7 +25,7 @@ use Rattle.verdict.proofs.Tabled.{needs_some}
 use Rattle.groups.specs.Numbers.{shares, is_lowest, lowest_below, lowest_bytes}
 use Rattle.groups.proofs.Numbers.{next_lowest, lowest_split}
 use Rattle.search.specs.declared.Looking.{Looking}
-use Rattle.search.specs.Looking.{compared, recorded, comparisons, carried_by, carried, up_to, last_line, until, looked_for, saturated, looking_for, Takes, takes}
+use Rattle.search.specs.Looking.{compared, recorded, comparisons, carried_by, carried, up_to, last_line, until, looked_for, saturated, looking_for, no_looking, Takes, takes}
 use Rattle.search.specs.Turns.{more, recorded_all, looked_so_far, Tallied}
 
 -- The lines that bytes make of several lines.
@@ -175,9 +175,9 @@ module _ (r : Re) where
   tally_as : {W W' L L' : List (List ℕ)} {y y' : Looking} → W ≡ W' → L ≡ L' → y ≡ y' → Tallied r W L y → Tallied r W' L' y'
   tally_as {W' = W'} {L} {L'} {y} {y'} e f g x = subst (Tallied r W' L') g (subst (λ N. Tallied r W' N y) f (subst (λ X. Tallied r X L y) e x))
 
-  pub tally_begin : Tallied r (looked_so_far r ([] ∷ []) 0 0) ([] ∷ []) (record { looks = 0; comparisons = 0 })
+  pub tally_begin : Tallied r (looked_so_far r ([] ∷ []) 0 0) ([] ∷ []) no_looking
   unfolding comparisons recorded_all
-  tally_begin = subst (λ W. Tallied r W ([] ∷ []) (record { looks = 0; comparisons = 0 })) (sym (so_far_none r ([] ∷ []))) (record { takes = refl; lines = refl })
+  tally_begin = subst (λ W. Tallied r W ([] ∷ []) no_looking) (sym (so_far_none r ([] ∷ []))) (record { takes = refl; lines = refl })
 
   module _ {L : List (List ℕ)} (q c : ℕ) {y : Looking} (x : Tallied r (looked_so_far r L q c) L y) where
     -- The byte is not the lowest of its group,

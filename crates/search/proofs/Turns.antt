@@ -26,7 +26,7 @@ use Rattle.standing.specs.declared.Standing.{Standing}
 use Rattle.standing.specs.Stands.{Stands}
 use Rattle.groups.specs.Numbers.{shares, is_lowest}
 use Rattle.search.specs.declared.Looking.{Looking}
-use Rattle.search.specs.Looking.{Takes}
+use Rattle.search.specs.Looking.{no_looking, Takes}
 use Rattle.search.specs.Ends.{HoldsRecords, AllFound, WitnessFound, SlotsFull}
 use Rattle.search.specs.Turns.{more, looked_so_far, Tallied, Searching, Working}
 use Rattle.search.proofs.Tallies.{so_far_none, tally_begin, tally_pass, tally_known, tally_last, tally_new, tally_turn, takes_nothing, takes_all, takes_witness, takes_full}
@@ -182,7 +182,7 @@ module _ {r : Re} (d : Numbered 0 r) {t₀ : List ℕ} where
       }
 
 -- The empty line's record stands in slot 0,
-pub first_record : (r : Re) {t₀ t : List ℕ} → 0 < slots (form_of r) (length t₀) → t ≡ sets t₀ 0 (record_bytes (form_of r) (standing r []) 0 0) → Searching r t₀ 0 0 1 (record { looks = 0; comparisons = 0 }) t
+pub first_record : (r : Re) {t₀ t : List ℕ} → 0 < slots (form_of r) (length t₀) → t ≡ sets t₀ 0 (record_bytes (form_of r) (standing r []) 0 0) → Searching r t₀ 0 0 1 no_looking t
 first_record r {t₀} h e = record {
   lines = [] ∷ [];
   size = refl;
@@ -197,7 +197,7 @@ first_record r {t₀} h e = record {
     none (suc m) l i = absurd (omega arith)
 
 -- if there is one.
-pub no_slot : (r : Re) {t₀ : List ℕ} → Numbered 0 r → slots (form_of r) (length t₀) ≡ 0 → SlotsFull r t₀ t₀ × Takes r (slots (form_of r) (length t₀)) (record { looks = 0; comparisons = 0 })
+pub no_slot : (r : Re) {t₀ : List ℕ} → Numbered 0 r → slots (form_of r) (length t₀) ≡ 0 → SlotsFull r t₀ t₀ × Takes r (slots (form_of r) (length t₀)) no_looking
 no_slot r {t₀} d h = (
   record {
     lines = [];
@@ -209,5 +209,5 @@ no_slot r {t₀} d h = (
       more = ([], tt, λ k l. absurd (omega arith));
     };
   },
-  takes_nothing r (slots (form_of r) (length t₀)) d h (subst (λ W. Tallied r W ([] ∷ []) (record { looks = 0; comparisons = 0 })) (so_far_none r ([] ∷ [])) (tally_begin r)),
+  takes_nothing r (slots (form_of r) (length t₀)) d h (subst (λ W. Tallied r W ([] ∷ []) no_looking) (so_far_none r ([] ∷ [])) (tally_begin r)),
 )

@@ -3,11 +3,11 @@
 use mathlib.Core.Path.{◌≡◌, refl, sym, ap, ◌∙◌, subst}
 use mathlib.Core.Bool.{Bool, false}
 use Prim.Native.Nat.{ℕ, zero, suc, ◌+◌, ◌-◌, ◌≤◌, ◌<◌}
-use mathlib.Core.List.{List, [], ◌∷◌}
+use mathlib.Core.List.{List}
 use native.Mathlib.Omega.{arith}
-use types.Run.{OneOf}
-use denote.Enum.Declared.{tag_of}
-use lib.ListN.{length, get_or, get_or-append}
+use Rattle.std.proofs.Common.{Ok, Err}
+use lib.ListN.{length, get_or, take}
+use lib.Seq.{take_at}
 use Rattle.theory.specs.Pattern.{Re, Numbered}
 use Rattle.theory.specs.Standing.{standing}
 use Rattle.theory.specs.Records.{at}
@@ -25,34 +25,24 @@ use Rattle.records.specs.Packing.{Unpacked}
 use Rattle.verdict.specs.Code.Held.{held}
 use Rattle.table.specs.Slots.{slot_count, loaded}
 use Rattle.table.proofs.Laws.{slot_there}
-use Rattle.search.specs.declared.Progress.{Progress}
-use Rattle.search.specs.declared.Progress.TheVariants.{Clear, Witness, Full}
+use Rattle.search.specs.declared.Stop.{Stop}
+use Rattle.search.specs.declared.Stop.TheVariants.{Witness, Full}
 use Rattle.search.specs.declared.Looking.{Looking}
 use Rattle.search.specs.declared.Course.{Course}
-use Rattle.search.specs.Looking.{Takes}
+use Rattle.search.specs.Looking.{no_looking, Takes}
 use Rattle.search.specs.Ends.{AllFound}
-use Rattle.search.specs.Turns.{Searching, Working, Slotted, Within, Grouping, CameTo, Turned, Worked, Run}
-use Rattle.search.specs.contracts.Progress.{the_type}
+use Rattle.search.specs.Turns.{Searching, Working, Slotted, Within, Grouping, progress_of, course_of, CameTo, Turned, Worked, Run}
 use Rattle.search.proofs.Looks.{all_inside, slot_record}
 use Rattle.search.proofs.Turns.{passed_turn, next_record, all_found}
 
--- What is told where an answer is neither of the other cases.
-pub not_clear : {p : Progress} → OneOf (1 ∷ 2 ∷ []) (tag_of the_type p) → (j : ℕ) → p ≡ Clear j → ⊥
-not_clear h j e = either (λ x. go x) (λ x. go x) (subst (λ q. OneOf (1 ∷ 2 ∷ []) (tag_of the_type q)) e h)
-  where
-    go : {n : ℕ} → 0 ≡ suc n → ⊥
-    go x = omega arith
-
 -- A search that has ended is where it is, whatever would hold of one that goes on.
-pub stopped : (r : Re) (t₀ t : List ℕ) (y : Looking) (P Q : ℕ → Type 0) {p : Progress} → ((o : ℕ) → p ≡ Clear o → ⊥) → CameTo r t₀ t y P p → CameTo r t₀ t y Q p
-stopped r t₀ t y P Q {p = Clear o} other x = absurd (other o refl)
-stopped r t₀ t y P Q {p = Witness o} other x = x
-stopped r t₀ t y P Q {p = Full} other x = x
+pub stopped : (r : Re) (t₀ t : List ℕ) (y : Looking) (P Q : ℕ → Type 0) (e : Stop) (n : ℕ) → CameTo r t₀ t y P (progress_of (Err e) n) → CameTo r t₀ t y Q (progress_of (Err e) n)
+stopped r t₀ t y P Q Witness n x = x
+stopped r t₀ t y P Q Full n x = x
 
-stopped_within : (m n : ℕ) {p : Progress} → ((o : ℕ) → p ≡ Clear o → ⊥) → Within m n p
-stopped_within m n {p = Clear o} other = absurd (other o refl)
-stopped_within m n {p = Witness o} other = tt
-stopped_within m n {p = Full} other = tt
+stopped_within : (m n k : ℕ) (e : Stop) → Within m n (progress_of (Err e) k)
+stopped_within m n k Witness = tt
+stopped_within m n k Full = tt
 
 -- The search never goes beyond the bytes.
 edge_most : (share : ℕ → ℕ → Bool) (j : ℕ) → j ≤ length (lowest_bytes share) → edge share j ≤ 256
@@ -86,36 +76,36 @@ module _ {r : Re} (d : Numbered 0 r) {t₀ : List ℕ} {s : Standing} {q n : ℕ
       pass_bytes (256 - edge (shares r) j) (edge (shares r) j) 256 (omega arith) (omega arith) (λ b g i. between (shares r) j b (omega arith) g i (λ k. absurd (omega arith))) w
 
 -- The groups of the masks are the pattern's.
-module _ {r : Re} {a : Arrays} (l : Lent r a) {low : List ℕ} {count : ℕ} (known : Grouping a.masks low count) where
+module _ {r : Re} {a : Arrays} (l : Lent r a) {low : List ℕ} (known : Grouping a.masks low) where
   pattern_groups : groups_by (same a.masks) ≡ groups_of r
   pattern_groups = mask_groups r a.masks (λ b p i j. sym (l.masked b p i j)) l.spare
 
-  group_count : count ≡ length (lowest_bytes (shares r))
-  group_count = known.1 ∙ ap (λ g. g.count) pattern_groups
+  low_is : low ≡ lowest_bytes (shares r)
+  low_is = known ∙ ap (λ g. take g.count g.lowest) pattern_groups ∙ take_at (lowest_bytes (shares r)) _ (length (lowest_bytes (shares r))) refl
 
-  group_lowest : (j : ℕ) → j < count → get_or low j 0 ≡ get_or (lowest_bytes (shares r)) j 0
-  group_lowest j h = ap (λ z. get_or z j 0) (known.0 ∙ ap (λ g. g.lowest) pattern_groups) ∙ get_or-append (lowest_bytes (shares r)) _ 0 j (omega (arith, group_count))
+  group_count : length low ≡ length (lowest_bytes (shares r))
+  group_count = ap length low_is
+
+  group_lowest : (j : ℕ) → get_or low j 0 ≡ get_or (lowest_bytes (shares r)) j 0
+  group_lowest j = ap (λ z. get_or z j 0) low_is
 
 -- Record q is carried on by the first j of the lowest bytes, and so by all bytes before the next; the table, t₁ before, has k records, and the looking, y₁ before, is y.
-pub record AtGroup (a : Arrays) (low : List ℕ) (count q n w m : ℕ) (y₁ : Looking) (t₁ : List ℕ) (s : Standing) (j k : ℕ) (y : Looking) (t : List ℕ) : Type 0 where
-  pub groups : j ≤ count
-  pub size : length t ≡ length t₁
+pub record AtGroup (a : Arrays) (low : List ℕ) (q n w m : ℕ) (y₁ : Looking) (t₁ : List ℕ) (s : Standing) (j k : ℕ) (y : Looking) (t : List ℕ) : Type 0 where
+  pub groups : j ≤ length low
   pub within : n ≤ m → k ≤ m
-  pub works : Grouping a.masks low count → {r : Re} {t₀ : List ℕ} → Lent r a → Slotted r t₀ w m → q < n → Searching r t₀ q 0 n y₁ t₁ → Working r t₀ s q (edge (shares r) j) k y t
+  pub works : Grouping a.masks low → {r : Re} {t₀ : List ℕ} → Lent r a → Slotted r t₀ w m → q < n → Searching r t₀ q 0 n y₁ t₁ → Working r t₀ s q (edge (shares r) j) k y t
 
 -- The records before q are carried on; the table, t₁ with record 0, has k records, and the looking is y.
 pub record AtRecord (a : Arrays) (known : Type 0) (w m : ℕ) (t₁ : List ℕ) (q k : ℕ) (y : Looking) (t : List ℕ) : Type 0 where
   pub slot : 0 < m
-  pub size : length t ≡ length t₁
   pub within : k ≤ m
-  pub found : known → {r : Re} {t₀ : List ℕ} → Lent r a → Slotted r t₀ w m → Searching r t₀ 0 0 1 (record { looks = 0; comparisons = 0 }) t₁ → Searching r t₀ q 0 k y t
+  pub found : known → {r : Re} {t₀ : List ℕ} → Lent r a → Slotted r t₀ w m → Searching r t₀ 0 0 1 no_looking t₁ → Searching r t₀ q 0 k y t
 
 module _ {a : Arrays} where
-  module _ {low : List ℕ} {count q n w m : ℕ} {y₁ : Looking} {t₁ : List ℕ} where
-    pub group_start : {s : Standing} → Unpacked (loaded w t₁ q) s → AtGroup a low count q n w m y₁ t₁ s 0 n y₁ t₁
+  module _ {low : List ℕ} {q n w m : ℕ} {y₁ : Looking} {t₁ : List ℕ} where
+    pub group_start : {s : Standing} → Unpacked (loaded w t₁ q) s → AtGroup a low q n w m y₁ t₁ s 0 n y₁ t₁
     group_start u = record {
       groups = omega arith;
-      size = refl;
       within = λ g. g;
       works = λ known {r} l e i x.
           let here : q < length x.lines = omega (arith, x.size) in
@@ -125,61 +115,60 @@ module _ {a : Arrays} where
     }
 
     -- The next of the lowest bytes is tried.
-    module _ {s : Standing} {j k : ℕ} {y : Looking} {t t' : List ℕ} {x : Course} (h : j < count) (b : AtGroup a low count q n w m y₁ t₁ s j k y t) (turned : Turned a s q (get_or low j 0) k w m y t x t') where
-      tried : Grouping a.masks low count → {r : Re} {t₀ : List ℕ} → Lent r a → Slotted r t₀ w m → q < n → Searching r t₀ q 0 n y₁ t₁
+    module _ {s : Standing} {j k : ℕ} {y : Looking} {t t' : List ℕ} (h : j < length low) (b : AtGroup a low q n w m y₁ t₁ s j k y t) {x : Course} (turned : Turned a s q (get_or low j 0) k w m y t x t') where
+      tried : Grouping a.masks low → {r : Re} {t₀ : List ℕ} → Lent r a → Slotted r t₀ w m → q < n → Searching r t₀ q 0 n y₁ t₁
           → CameTo r t₀ t' x.looking (λ z. Working r t₀ s q (edge (shares r) (suc j)) z x.looking t') x.progress
       tried known {r} l f i z =
           let there : j < length (lowest_bytes (shares r)) = omega (arith, group_count l known) in
           let (byte, lowest) = lowest_byte (shares r) j there in
-          (subst (λ c. Turned a s q c k w m y t x t') (group_lowest l known j h) turned).leads l f byte (T_true _ lowest) (to_lowest l.numbered j there (b.works known l f i z))
+          (subst (λ c. Turned a s q c k w m y t x t') (group_lowest l known j) turned).leads l f byte (T_true _ lowest) (to_lowest l.numbered j there (b.works known l f i z))
 
-      pub group_step : {o : ℕ} → length t' ≡ length t → x.progress ≡ Clear o → AtGroup a low count q n w m y₁ t₁ s (j + 1) o x.looking t'
-      group_step {o} g e =
+    module _ {s : Standing} {j k : ℕ} {y : Looking} {t t' : List ℕ} (h : j < length low) (b : AtGroup a low q n w m y₁ t₁ s j k y t) where
+      pub group_step : {u : Unit {0}} {o : ℕ} {y' : Looking} → Turned a s q (get_or low j 0) k w m y t (course_of (Ok u) o y') t' → AtGroup a low q n w m y₁ t₁ s (j + 1) o y' t'
+      group_step {o = o} {y'} turned =
           let more : suc j ≡ j + 1 = omega arith in
           record {
             groups = omega arith;
-            size = g ∙ b.size;
-            within = λ i. subst (Within m k) e turned.within (b.within i);
-            works = λ u {r} {t₀} l f i z.
-                subst (λ i. Working r t₀ s q (edge (shares r) i) o x.looking t') more
-                (subst (CameTo r t₀ t' x.looking (λ z. Working r t₀ s q (edge (shares r) (suc j)) z x.looking t')) e (tried u l f i z));
+            within = λ i. turned.within (b.within i);
+            works = λ u {r} {t₀} l f i z. subst (λ i. Working r t₀ s q (edge (shares r) i) o y' t') more (tried h b turned u l f i z);
           }
 
       -- The search ends within the record,
-      pub group_stop : ((o : ℕ) → x.progress ≡ Clear o → ⊥) → Worked (Grouping a.masks low count) a q n w m y₁ t₁ x t'
-      group_stop other = record {
-        within = stopped_within m n other;
-        leads = λ u {r} {t₀} l f i z. stopped r t₀ t' x.looking _ _ other (tried u l f i z);
+      pub group_stop : (e : Stop) (o : ℕ) {y' : Looking} → Turned a s q (get_or low j 0) k w m y t (course_of (Err e) o y') t' → Worked (Grouping a.masks low) a q n w m y₁ t₁ (course_of (Err e) o y') t'
+      group_stop e o {y'} turned = record {
+        within = stopped_within m n o e;
+        leads = λ u {r} {t₀} l f i z. stopped r t₀ t' y' _ _ e o (tried h b turned u l f i z);
       }
 
     -- or goes through all its groups.
-    pub group_end : {s : Standing} {j k : ℕ} {y : Looking} {t : List ℕ} → count ≤ j → AtGroup a low count q n w m y₁ t₁ s j k y t → Worked (Grouping a.masks low count) a q n w m y₁ t₁ (record { progress = Clear k; looking = y }) t
+    pub group_end : {s : Standing} {j k : ℕ} {y : Looking} {t : List ℕ} {u : Unit {0}} → length low ≤ j → AtGroup a low q n w m y₁ t₁ s j k y t → Worked (Grouping a.masks low) a q n w m y₁ t₁ (course_of (Ok u) k y) t
     group_end {j = j} h b = record {
       within = b.within;
       leads = λ known l f i z. next_record l.numbered (to_end l.numbered j (omega (arith, b.groups, group_count l known)) (b.works known l f i z));
     }
 
   module _ {known : Type 0} {w m : ℕ} {t₁ : List ℕ} where
-    pub record_start : 0 < m → AtRecord a known w m t₁ 0 1 (record { looks = 0; comparisons = 0 }) t₁
-    record_start h = record { slot = h; size = refl; within = h; found = λ u l e x. x }
+    pub record_start : {n : ℕ} {y : Looking} → 0 < m → n ≡ 1 → y ≡ no_looking → AtRecord a known w m t₁ 0 n y t₁
+    record_start {n} {y} h one none = record {
+      slot = h;
+      within = omega arith;
+      found = λ u {r} {t₀} l e x. subst (λ z. Searching r t₀ 0 0 n z t₁) (sym none) (subst (λ k. Searching r t₀ 0 0 k no_looking t₁) (sym one) x);
+    }
 
-    module _ {q k : ℕ} {y : Looking} {t t' : List ℕ} {x : Course} (h : q < k) (b : AtRecord a known w m t₁ q k y t) (worked : Worked known a q k w m y t x t') where
-      pub record_step : {j : ℕ} → length t' ≡ length t → x.progress ≡ Clear j → AtRecord a known w m t₁ (q + 1) j x.looking t'
-      record_step {j} i e =
+    module _ {q k : ℕ} {y : Looking} {t t' : List ℕ} (h : q < k) (b : AtRecord a known w m t₁ q k y t) where
+      pub record_step : {u : Unit {0}} {j : ℕ} {y' : Looking} → Worked known a q k w m y t (course_of (Ok u) j y') t' → AtRecord a known w m t₁ (q + 1) j y' t'
+      record_step {j = j} {y'} worked =
           let more : suc q ≡ q + 1 = omega arith in
           record {
             slot = b.slot;
-            size = i ∙ b.size;
-            within = subst (Within m k) e worked.within b.within;
-            found = λ u {r} {t₀} l f z.
-                subst (λ i. Searching r t₀ i 0 j x.looking t') more
-                (subst (CameTo r t₀ t' x.looking (λ z. Searching r t₀ (suc q) 0 z x.looking t')) e (worked.leads u l f h (b.found u l f z)));
+            within = worked.within b.within;
+            found = λ u {r} {t₀} l f z. subst (λ i. Searching r t₀ i 0 j y' t') more (worked.leads u l f h (b.found u l f z));
           }
 
-      pub record_stop : ((j : ℕ) → x.progress ≡ Clear j → ⊥) → Run known a w m t₁ x t'
-      record_stop other = record { leads = λ u {r} {t₀} l f z. stopped r t₀ t' x.looking _ _ other (worked.leads u l f h (b.found u l f z)) }
+      pub record_stop : (e : Stop) (j : ℕ) {y' : Looking} → Worked known a q k w m y t (course_of (Err e) j y') t' → Run known a w m t₁ (course_of (Err e) j y') t'
+      record_stop e j {y'} worked = record { leads = λ u {r} {t₀} l f z. stopped r t₀ t' y' _ _ e j (worked.leads u l f h (b.found u l f z)) }
 
-    pub record_end : {q k : ℕ} {y : Looking} {t : List ℕ} → k ≤ q → AtRecord a known w m t₁ q k y t → Run known a w m t₁ (record { progress = Clear k; looking = y }) t
+    pub record_end : {q k : ℕ} {y : Looking} {t : List ℕ} {u : Unit {0}} → k ≤ q → AtRecord a known w m t₁ q k y t → Run known a w m t₁ (course_of (Ok u) k y) t
     record_end {q} {k} {y} {t} h b = record { leads = λ u l f z. go l f (b.found u l f z) }
       where
         go : {r : Re} {t₀ : List ℕ} → Lent r a → Slotted r t₀ w m → Searching r t₀ q 0 k y t → AllFound r t₀ k t × Takes r m y

@@ -54,6 +54,10 @@ looked_for r m L w = cond (ltb 0 m) (until (last_line m L w) (carried (lowest_by
 abbrev pub saturated : ℕ → ℕ
 saturated n = min n 18446744073709551615
 
+-- There is no look.
+abbrev pub no_looking : Looking
+no_looking = record { looks = 0; comparisons = 0 }
+
 -- What the looks for the lines W take, where the empty line's record is there at first.
 abbrev pub looking_for : Re → List (List ℕ) → Looking
 looking_for r W = record { looks = saturated (length W); comparisons = saturated (comparisons r ([] ∷ []) W) }

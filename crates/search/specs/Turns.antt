@@ -1,7 +1,7 @@
 -- The search on its way: the records found stand in the table, those before record q are carried on by each byte, and record q by the bytes below c; and the looking so
 -- far.
 -- Assumes nothing.
-use Rattle.std.specs.Prelude.{◌≡◌, ℕ, suc, ◌+◌, ◌≤◌, ◌<◌, true, List, [], ◌∷◌, ◌++◌, length, take}
+use Rattle.std.specs.Prelude.{◌≡◌, ℕ, suc, ◌+◌, ◌≤◌, ◌<◌, true, List, [], ◌∷◌, ◌++◌, length, take, Result, Ok, Err}
 use Rattle.theory.specs.Pattern.{Re}
 use Rattle.theory.specs.Standing.{standing}
 use Rattle.theory.specs.Records.{at, NoWitness}
@@ -15,7 +15,9 @@ use Rattle.groups.specs.Turns.{same}
 use Rattle.search.specs.declared.Progress.{Progress}
 use Rattle.search.specs.declared.Looking.{Looking}
 use Rattle.search.specs.declared.Course.{Course}
-use Rattle.search.specs.Looking.{recorded, carried_by, carried, saturated, looking_for, Takes}
+use Rattle.search.specs.declared.Stop.{Stop}
+use Rattle.search.specs.declared.Stop.TheVariants.{Witness, Full}
+use Rattle.search.specs.Looking.{recorded, carried_by, carried, saturated, looking_for, no_looking, Takes}
 use Rattle.search.specs.Ends.{HoldsRecords, AllFound, WitnessFound, SlotsFull}
 
 -- The looking after one more look, which compared n records.
@@ -61,9 +63,18 @@ Within m n (Progress.Clear k) = n ≤ m → k ≤ m
 Within m n (Progress.Witness k) = Unit {0}
 Within m n Progress.Full = Unit {0}
 
--- The lowest bytes of the groups, and how many there are, are those of the masks.
-abbrev pub Grouping : List ℕ → List ℕ → ℕ → Type 0
-Grouping masks lowest count = (lowest ≡ (groups_by (same masks)).lowest) × (count ≡ (groups_by (same masks)).count)
+-- The lowest bytes are those of the masks' groups.
+abbrev pub Grouping : List ℕ → List ℕ → Type 0
+Grouping masks lowest = lowest ≡ take (groups_by (same masks)).count (groups_by (same masks)).lowest
+
+-- How far a search has come that has n records, and with the looking y: it goes on, or it has ended at one of its stops.
+abbrev pub progress_of : Result Unit Stop → ℕ → Progress
+progress_of (Ok x) n = Progress.Clear n
+progress_of (Err Witness) n = Progress.Witness n
+progress_of (Err Full) n = Progress.Full
+
+abbrev pub course_of : Result Unit Stop → ℕ → Looking → Course
+course_of x n y = record { progress = progress_of x n; looking = y }
 
 -- How far the search came with the looking y, where P says what holds of n records without a witness.
 abbrev pub CameTo : Re → List ℕ → List ℕ → Looking → (ℕ → Type 0) → Progress → Type 0
@@ -85,5 +96,5 @@ pub record Worked (known : Type 0) (a : Arrays) (q n w m : ℕ) (y : Looking) (t
 
 -- What is found from record 0 on.
 pub record Run (known : Type 0) (a : Arrays) (w m : ℕ) (t : List ℕ) (x : Course) (t' : List ℕ) : Type 0 where
-  pub leads : known → {r : Re} {t₀ : List ℕ} → Lent r a → Slotted r t₀ w m → Searching r t₀ 0 0 1 (record { looks = 0; comparisons = 0 }) t
+  pub leads : known → {r : Re} {t₀ : List ℕ} → Lent r a → Slotted r t₀ w m → Searching r t₀ 0 0 1 no_looking t
       → CameTo r t₀ t' x.looking (λ n. AllFound r t₀ n t' × Takes r m x.looking) x.progress

@@ -1,3 +1,3 @@
--- The laws of places that are passed over, and of the bytes that are looked for.
+-- The laws of chunks of a line, and of places that are passed over.
+mod Chunks
 mod Places
-mod Hows

@@ -3,7 +3,7 @@
 use Rattle.std.specs.Prelude.{◌≡◌, ℕ, ◌≤◌, ◌<◌, Bool, true, List, length, get_or}
 use Rattle.std.specs.Int.Bits.{bit_and}
 use Rattle.seeking.specs.declared.How.{How}
-use Rattle.seeking.specs.Hows.{few, Finds}
+use Rattle.seeking.specs.Hows.{Finds}
 
 -- Of each byte from i to r the leaves `all` take just `kind`, and r is the line's end or has a byte of another kind. r is in the line if i is.
 pub record Kind (masks w : List ℕ) (all kind i r : ℕ) : Type 0 where
@@ -18,22 +18,6 @@ pub record Passed (is : Bool) (masks w : List ℕ) (all kind i r : ℕ) : Type 0
   pub within : i ≤ length w → r ≤ length w
   pub alike : (k : ℕ) → i ≤ k → k < r → (is ≡ true) × (bit_and all (get_or masks (get_or w k 0) 0) ≡ kind)
   pub other : is ≡ true → r < length w → bit_and all (get_or masks (get_or w r 0) 0) ≡ kind → ⊥
-
--- No byte from i to r is one of those that P says.
-pub record Lacks (P : ℕ → Type 0) (w : List ℕ) (i r : ℕ) : Type 0 where
-  pub more : i ≤ r
-  pub within : r ≤ length w
-  pub none : (k : ℕ) → i ≤ k → k < r → P (get_or w k 0) → ⊥
-
-abbrev pub One : ℕ → ℕ → Type 0
-One a b = b ≡ a
-
--- A byte of another kind.
-abbrev pub Other : List ℕ → ℕ → ℕ → ℕ → Type 0
-Other masks all kind b = bit_and all (get_or masks b 0) ≡ kind → ⊥
-
-abbrev pub Few : ℕ → ℕ → ℕ → ℕ → ℕ → Type 0
-Few low high other last b = few low high other last b ≡ true
 
 -- From i to r, the next place whose byte some leaf of the set takes, or the line's end: none takes a byte in between, if `how` finds all that the set takes and the line is one of bytes.
 pub record Sought (masks w : List ℕ) (set : ℕ) (how : How) (i r : ℕ) : Type 0 where

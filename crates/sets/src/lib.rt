@@ -7,6 +7,7 @@ ghost use Rattle.grammar.specs.Sets.{set_table, is_on};
 ghost use Rattle.grammar.specs.Loaded.{passes};
 ghost use Rattle.sets.specs.Checks.{Checks};
 
+// The bits of an entry. They are numbers, since carriers hand over tables of such bytes.
 const ALPHA: u8 = 128;
 
 const DIGIT: u8 = 64;
@@ -26,11 +27,10 @@ const PUNCT: u8 = 1;
 // How many entries a table has.
 pub const ENTRIES: usize = 256;
 
-// What a table is: it passes its checks, or it fails at its lowest failing entry, or at 256 if it has not 256 entries.
-#[derive(Clone, Copy)]
-pub enum Checked {
-    Usable,
-    Faulty { place: usize },
+// Where a table fails its checks: at its lowest failing entry, or at 256 if it has not 256 entries. That is a place like the others, one past the last, and printed as one.
+#[derive(Clone, Copy, PartialEq, Eq)]
+pub struct Faulty {
+    pub place: usize,
 }
 
 // The fixed table.
@@ -55,20 +55,16 @@ fn passes(entry: u8) -> bool
     let alpha = has(entry, ALPHA);
     let digit = has(entry, DIGIT);
     let alnum = has(entry, ALNUM);
+    let upper = has(entry, UPPER);
+    let lower = has(entry, LOWER);
+    let xdigit = has(entry, XDIGIT);
+    let space = has(entry, SPACE);
     let punct = has(entry, PUNCT);
-    if alnum != words::either(alpha, digit) {
-        return false;
-    }
-    if !alpha && words::either(has(entry, UPPER), has(entry, LOWER)) {
-        return false;
-    }
-    if digit && !has(entry, XDIGIT) {
-        return false;
-    }
-    if alpha && digit {
-        return false;
-    }
-    !(punct && words::either(alnum, has(entry, SPACE)))
+    (alnum == (alpha | digit))
+        & (alpha | !(upper | lower))
+        & (xdigit | !digit)
+        & !(alpha & digit)
+        & !(punct & (alnum | space))
 }
 
 // Whether an entry fails. Most bytes are in no set, and then there is nothing to check.
@@ -82,20 +78,18 @@ fn fails(entry: u8) -> bool
 }
 
 // Checks a table of any length and content.
-pub fn check(loaded: &[u8]) -> Checked
+pub fn check(loaded: &[u8]) -> Result<(), Faulty>
     ensures checked { Checks loaded.now result }
 {
     if loaded.len() != ENTRIES {
-        return Checked::Faulty { place: ENTRIES };
+        return Err(Faulty { place: ENTRIES });
     }
-    let mut b = 0;
-    while b < ENTRIES {
-        if fails(loaded[b]) {
-            return Checked::Faulty { place: b };
+    for (place, entry) in loaded.iter().enumerate() {
+        if fails(*entry) {
+            return Err(Faulty { place });
         }
-        b += 1;
     }
-    Checked::Usable
+    Ok(())
 }
 
 // The named sets that hold each byte, from the highest bit: alpha, digit, alnum, upper, lower, xdigit, space, punct.

@@ -1,49 +1,36 @@
 -- Reading outcomes: what is gathered stays sound, one leaf or one end more, and two lists read one after the other.
 -- Assumes nothing.
 use mathlib.Core.Path.{◌≡◌, refl, sym, ◌∙◌}
-use Prim.Native.Nat.{ℕ, zero, suc, ◌+◌, ◌-◌, ◌≤◌, ◌<◌, min}
-use mathlib.Core.Bool.{Bool, true, false, ◌&&◌, ◌||◌, cond, true≢false}
-use mathlib.Core.List.{List, [], ◌∷◌, ◌++◌, append-nil}
+use Prim.Native.Nat.{ℕ, zero, suc, ◌+◌, ◌<◌}
+use mathlib.Core.Bool.{Bool, true, false, ◌||◌, cond, true≢false}
+use mathlib.Core.List.{List, [], ◌∷◌, ◌++◌, append-nil, append_assoc}
 use native.Mathlib.Omega.{arith}
 use native.Mathlib.Numerals.{add-one}
-use native.Mathlib.Decide.{dec_lt}
-use lib.ListN.{length, get_or, set, take, drop, length-set, length-drop, drop_of_length-le}
-use lib.Seq.{take_all, length-take-le, take-suc-set, drop-cons, get_or-take}
+use lib.ListN.{length, get_or, set, take, drop, length-set}
+use lib.Seq.{length-take-le, take-suc-set}
+use Rattle.std.proofs.lemmas.List.{take_more, take-append-drop}
 use lib.Dec.{T, eqb, ltb, eqb→eq, eqb-zero-suc}
-use borrow.Author.Tests.{lt-ltb, le-ltb}
+use borrow.Author.Tests.{lt-ltb}
 use Rattle.theory.specs.Standing.{member, gather, from}
 use Rattle.theory.specs.Code.Closure.{flat}
 use Rattle.theory.proofs.Tests.{T_true, not_true, or_cases, or_assoc, or_false, either}
 use Rattle.theory.specs.Code.Members.{nil, cons}
 use Rattle.theory.proofs.Members.{member_append, gather_append, member_from, length_from, once_gather, once_size}
 use Rattle.words.specs.Sets.{has_bit}
-use Rattle.standing.specs.Reads.{Gathered, order, Sound, leaves, Read, Fronts, row_of, outcomes_after}
+use Rattle.standing.specs.declared.Front.{Front}
+use Rattle.standing.specs.Reads.{order, Sound, leaves, Read, Fronts}
 use Rattle.words.proofs.Bits.{no_bit}
 
 -- Nothing is read.
-pub blank_fronts : (list : List ℕ) → length list ≡ 64 → Fronts [] (record { list = list; n = 0; seen = 0; ended = false })
+pub blank_fronts : (list : List ℕ) → length list ≡ 64 → Fronts [] (record { list = list; n = 0; seen = 0; ends = false })
 blank_fronts list long = record {
   sound = record { long = long; size = omega arith; marked = λ p. no_bit p; below = λ p t. absurd t; apart = nil };
   order = refl;
   ended = refl;
 }
 
-pub fronts_read : (e f : Gathered) (l : List ℕ) → Fronts [] e → Read e l f → Fronts l f
-fronts_read e f l b c = record {
-  sound = c.sound;
-  order = c.order ∙ rw (b.ended, b.order);
-  ended = c.ended ∙ rw b.ended;
-}
-
-pub read_none : (f : Gathered) → Sound f → Read f [] f
-read_none f s = record { sound = s; order = go f.ended; ended = sym (or_false f.ended) }
-  where
-    go : (c : Bool) → order f ≡ cond c (order f) (order f)
-    go true = refl
-    go false = refl
-
 -- After an end nothing counts.
-pub read_stop : (f : Gathered) (l : List ℕ) → Sound f → f.ended ≡ true → Read f l f
+pub read_stop : (f : Front) (l : List ℕ) → Sound f → f.ends ≡ true → Read f l f
 read_stop f l s e = record { sound = s; order = rw e; ended = rw e }
 
 leaves_append : (l m : List ℕ) → leaves (l ++ m) ≡ leaves l ++ cond (member 0 l) [] (leaves m)
@@ -58,11 +45,11 @@ leaves_append (suc p ∷ l) m = rw (eqb-zero-suc p, leaves_append l m) (go (ltb 
     go true = refl
     go false = refl
 
-pub read_append : (f g h : Gathered) (l m : List ℕ) → Read f l g → Read g m h → Read f (l ++ m) h
+pub read_append : (f g h : Front) (l m : List ℕ) → Read f l g → Read g m h → Read f (l ++ m) h
 read_append f g h l m a b = record {
   sound = b.sound;
-  order = b.order ∙ rw (a.ended, a.order, leaves_append l m) (go f.ended (member 0 l));
-  ended = b.ended ∙ rw (a.ended, member_append 0 l m) (or_assoc f.ended (member 0 l) (member 0 m));
+  order = b.order ∙ rw (a.ended, a.order, leaves_append l m) (go f.ends (member 0 l));
+  ended = b.ended ∙ rw (a.ended, member_append 0 l m) (or_assoc f.ends (member 0 l) (member 0 m));
 }
   where
     u : List ℕ
@@ -73,31 +60,15 @@ read_append f g h l m a b = record {
     go false true = rw (append-nil (leaves l))
     go false false = sym (gather_append u (leaves l) (leaves m))
 
--- A loop that reads the rest of a list: what its end gives is what the whole gives.
-abbrev pub Rest : Gathered → List ℕ → Gathered → List ℕ → Type 0
-Rest f whole g rest = (h : Gathered) → Read g rest h → Read f whole h
+-- A loop that reads a list up to the first end: an end was there after its first i outcomes, and one outcome more.
+pub read_ended : (f g : Front) (l : List ℕ) (i : ℕ) → g.ends ≡ true → Read f (take i l) g → Read f l g
+read_ended f g l i e a = rw (sym (take-append-drop i l)) (read_append f g g (take i l) (drop i l) a (read_stop g (drop i l) a.sound e))
 
-pub rest_begin : (f : Gathered) (whole rest : List ℕ) → rest ≡ whole → Rest f whole f rest
-rest_begin f whole rest e h a = rw e at a
+pub read_turn : (f g h : Front) (l : List ℕ) (i : ℕ) → i < length l → Read f (take i l) g → Read g (get_or l i 0 ∷ []) h → Read f (take (i + 1) l) h
+read_turn f g h l i k a b = rw (take_more l i 0 k) (read_append f g h (take i l) (get_or l i 0 ∷ []) a b)
 
-pub rest_more : (f g h : Gathered) (whole rest l m : List ℕ) → rest ≡ l ++ m → Rest f whole g rest → Read g l h → Rest f whole h m
-rest_more f g h whole rest l m e k a = λ i b. k i (rw e (read_append g h i l m a b))
-
-pub rest_end : (f g : Gathered) (whole rest : List ℕ) → rest ≡ [] → Sound g → Rest f whole g rest → Read f whole g
-rest_end f g whole rest e s k = k g (rw e (read_none g s))
-
--- One outcome.
-pub read_end_lem : (f : Gathered) → Sound f → f.ended ≡ false → Read f (0 ∷ []) (record { list = f.list; n = f.n; seen = f.seen; ended = true })
-read_end_lem f s e = record { sound = record { long = s.long; size = s.size; marked = s.marked; below = s.below; apart = s.apart }; order = rw e; ended = rw e }
-
-pub read_over : (f : Gathered) (x : ℕ) → Sound f → f.ended ≡ false → 64 < x → Read f (x ∷ []) f
-read_over f zero s e h = absurd (omega arith)
-read_over f (suc p) s e h = record { sound = s; order = rw (e, le-ltb p 64 (omega arith)); ended = rw (e, eqb-zero-suc p) }
-
-module _ (f : Gathered) (p : ℕ) (s : Sound f) (h : p < 64) (e : f.ended ≡ false) where
-  pub read_again : has_bit f.seen p ≡ true → Read f (suc p ∷ []) f
-  read_again b = record { sound = s; order = rw (e, lt-ltb p 64 h, sym (s.marked p) ∙ b); ended = rw (e, eqb-zero-suc p) }
-
+-- One leaf more.
+module _ (f : Front) (p : ℕ) (s : Sound f) (h : p < 64) (e : f.ends ≡ false) where
   module _ (b : has_bit f.seen p ≡ false) where
     new : T (member p (order f)) → ⊥
     new t = true≢false (sym (T_true (member p (order f)) t) ∙ sym (s.marked p) ∙ b)
@@ -110,7 +81,7 @@ module _ (f : Gathered) (p : ℕ) (s : Sound f) (h : p < 64) (e : f.ended ≡ fa
         omega (arith, length_from 0 64, length-take-le f.n f.list (omega (arith, s.size, s.long)), s.size)
 
     pub read_new : (seen : ℕ) → ((q : ℕ) → has_bit seen q ≡ (has_bit f.seen q || eqb q p))
-        → Read f (suc p ∷ []) (record { list = set f.list f.n p; n = f.n + 1; seen = seen; ended = f.ended })
+        → Read f (suc p ∷ []) (record { list = set f.list f.n p; n = f.n + 1; seen = seen; ends = f.ends })
     read_new seen k =
         let room = read_room in
         let long = s.long in
@@ -127,45 +98,24 @@ module _ (f : Gathered) (p : ℕ) (s : Sound f) (h : p < 64) (e : f.ended ≡ fa
             apart = rw o (rw g at (once_gather (order f) (p ∷ []) s.apart));
           };
           order = rw (e, lt-ltb p 64 h) (o ∙ sym g);
-          ended = rw (eqb-zero-suc p) (sym (or_false f.ended));
+          ended = rw (eqb-zero-suc p) (sym (or_false f.ends));
         }
 
--- What the loop over a row has still to read, where the row ends before e.
-module _ (rows : List ℕ) where
-  pub row_begin : (e len s : ℕ) → e ≡ min (s + len) (length rows) → take (e - s) (drop s rows) ≡ take len (drop s rows)
-  row_begin e len s m = go (dec_lt (length rows) (s + len))
-    where
-      go : Dec (length rows < s + len) → take (e - s) (drop s rows) ≡ take len (drop s rows)
-      go (yes l) = take_all (e - s) (drop s rows) (omega (arith, length-drop s rows)) ∙ sym (take_all len (drop s rows) (omega (arith, length-drop s rows)))
-      go (no l) = let c : e - s ≡ len = omega arith in rw c
+pub fronts_read : (e f : Front) (l : List ℕ) → Fronts [] e → Read e l f → Fronts l f
+fronts_read e f l b c = record {
+  sound = c.sound;
+  order = c.order ∙ rw (b.ended, b.order);
+  ended = c.ended ∙ rw b.ended;
+}
 
-  pub row_turn : (e i : ℕ) → i < e → e ≤ length rows → take (e - i) (drop i rows) ≡ (get_or rows i 0 ∷ []) ++ take (e - (i + 1)) (drop (i + 1) rows)
-  row_turn e i h k = let c : e - i ≡ suc (e - (i + 1)) = omega arith in rw (c, drop-cons rows i 0 (omega arith), add-one i)
+-- The same of the outcomes of leaves, by k those of each.
+module _ (k : ℕ → List ℕ) (l : List ℕ) (f g : Front) (i : ℕ) where
+  flat_append : (m n : List ℕ) → flat k (m ++ n) ≡ flat k m ++ flat k n
+  flat_append [] n = refl
+  flat_append (p ∷ m) n = rw (flat_append m n, append_assoc) refl
 
-  pub row_done : (e i : ℕ) → e ≤ i → take (e - i) (drop i rows) ≡ []
-  row_done e i h = let c : e - i ≡ 0 = omega arith in rw c
+  pub leaves_ended : g.ends ≡ true → Read f (flat k (take i l)) g → Read f (flat k l) g
+  leaves_ended e a = rw (sym (take-append-drop i l), flat_append (take i l) (drop i l)) (read_append f g g _ _ a (read_stop g _ a.sound e))
 
--- The same for the first n of a list of leaves, by f their outcomes.
-module _ (f : ℕ → List ℕ) (l : List ℕ) (n : ℕ) (k : n ≤ length l) where
-  pub list_turn : (i : ℕ) → i < n → flat f (drop i (take n l)) ≡ f (get_or l i 0) ++ flat f (drop (i + 1) (take n l))
-  list_turn i h =
-      let a : i < length (take n l) = omega (arith, length-take-le n l k) in
-      rw (drop-cons (take n l) i 0 a, get_or-take n l i 0 h, add-one i)
-
-  pub list_done : (i : ℕ) → n ≤ i → flat f (drop i (take n l)) ≡ []
-  list_done i h = let a : length (take n l) ≤ i = omega (arith, length-take-le n l k) in rw (drop_of_length-le (take n l) a)
-
--- The outcomes after a leaf that takes the byte, and after any other.
-module _ (mask : ℕ) (rows lens : List ℕ) (p : ℕ) where
-  pub after_taken : p < 64 → has_bit mask p ≡ true → outcomes_after mask rows lens p ≡ row_of rows lens (p + 1)
-  after_taken h e = rw (lt-ltb p 64 h, e, add-one p)
-
-  pub after_not : has_bit mask p ≡ false → outcomes_after mask rows lens p ≡ []
-  after_not e = rw e (go (ltb p 64))
-    where
-      go : (c : Bool) → cond (c && false) (row_of rows lens (suc p)) [] ≡ []
-      go true = refl
-      go false = refl
-
-  pub after_over : 64 ≤ p → outcomes_after mask rows lens p ≡ []
-  after_over h = rw (le-ltb p 64 h)
+  pub leaves_turn : (h : Front) → i < length l → Read f (flat k (take i l)) g → Read g (k (get_or l i 0)) h → Read f (flat k (take (i + 1) l)) h
+  leaves_turn h c a b = rw (take_more l i 0 c, flat_append (take i l) (get_or l i 0 ∷ []), append-nil (k (get_or l i 0))) (read_append f g h _ _ a b)

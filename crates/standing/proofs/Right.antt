@@ -8,7 +8,6 @@ use native.Mathlib.Omega.{arith}
 use native.Mathlib.Decide.{dec_lt}
 use lib.ListN.{get_or, take}
 use lib.Dec.{T, eqb, eqb_refl}
-use lib.Bits.{bit_or}
 use borrow.Author.Tests.{lt-ltb}
 use Rattle.theory.specs.Pattern.{Re, count, has}
 use Rattle.theory.specs.Standing.{member, once, from, filter, standing, fronts, wanted}
@@ -24,16 +23,18 @@ use Rattle.theory.proofs.Closure.{closure_right, gather_once, next_moves, member
 use Rattle.words.specs.Sets.{has_bit}
 use Rattle.standing.specs.declared.Standing.{Standing}
 use Rattle.standing.specs.declared.Wants.{Wants}
-use Rattle.standing.specs.Stands.{means, Arrays, Lent, Fine, Stands}
-use Rattle.standing.specs.Reads.{Gathered, order, Fronts, row_of, outcomes_after}
+use Rattle.standing.specs.Stands.{means, Arrays, tables_in, Lent, Fine, Stands}
+use Rattle.follow.specs.Rows.{row}
+use Rattle.standing.specs.declared.Front.{Front}
+use Rattle.standing.specs.Reads.{order, Fronts, outcomes_after}
 use Rattle.standing.specs.Sets.{Small, goes, Wanted}
-use Rattle.words.proofs.Bits.{no_bit, or_bit, no_more}
+use Rattle.words.proofs.Bits.{no_more}
 use Rattle.standing.proofs.Sets.{any_cut, any_filter, filter_cut, member_flat}
 use Rattle.standing.proofs.Outcomes.{Within, front_items, closure_within, flat_within, leaves_front, front_member, front_once}
 
 -- The standing as the code puts it together.
-abbrev pub made : Gathered → ℕ → Bool → Standing
-made f all some = record { list = f.list; n = f.n; first = f.ended; all = all; some = some }
+abbrev pub made : Front → ℕ → Bool → Standing
+made f all some = record { list = f.list; n = f.n; first = f.ends; all = all; some = some }
 
 -- The bits `all` and the flag `some` are the outcomes m.
 pub record Shows (m : List ℕ) (all : ℕ) (some : Bool) : Type 0 where
@@ -45,7 +46,7 @@ pub record Shows (m : List ℕ) (all : ℕ) (some : Bool) : Type 0 where
 abbrev shown : ℕ → List ℕ → List ℕ → Theory.Standing
 shown c l m = record { order = once (front l); first = member 0 l; all = filter (λ p. member (suc p) m) (from 0 c); some = member 0 m }
 
-module _ (r : Re) (most : count r ≤ 64) (l m : List ℕ) (inner : Within (count r) l) (outer : Within (count r) m) (f : Gathered) (all : ℕ) (some : Bool) (a : Fronts l f) (b : Shows m all some) where
+module _ (r : Re) (most : count r ≤ 64) (l m : List ℕ) (inner : Within (count r) l) (outer : Within (count r) m) (f : Front) (all : ℕ) (some : Bool) (a : Fronts l f) (b : Shows m all some) where
   gathered : order f ≡ once (front l)
   gathered = a.order ∙ ap once (leaves_front l λ q t. omega (arith, inner q t))
 
@@ -76,7 +77,7 @@ flag_is (suc zero) e h a b = sym (a refl)
 flag_is (suc (suc x)) e h a b = absurd (omega arith)
 
 module _ {a : Arrays} {r : Re} (d : Lent r a) where
-  row_end : (k : ℕ) → k ≤ count r → eqb (get_or a.ends k 0) 1 ≡ member 0 (row_of a.rows a.lens k)
+  row_end : (k : ℕ) → k ≤ count r → eqb (get_or a.ends k 0) 1 ≡ member 0 (row (tables_in a) k)
   row_end k h = let s = d.follows.summed k h in flag_is _ _ s.flag s.end s.no_end
 
   -- The first standing.
@@ -89,25 +90,24 @@ module _ {a : Arrays} {r : Re} (d : Lent r a) where
       filter_same _ _ (from 0 (count r)) λ p. rw (closure_right r, gather_member (suc p) [] (items (start r))) (member_wants p (start r)) in
       λ i. record { order = o i; first = e i; all = a i; some = e i })
 
-  start_shows : (x : ℕ) → x ≡ bit_or 0 (get_or a.sets 0 0) → x < 18446744073709551616 → Shows (row_of a.rows a.lens 0) x (eqb (get_or a.ends 0 0) 1)
-  start_shows x u few = record {
-    bits = λ q h. ap (λ y. has_bit y q) u ∙ or_bit 0 (get_or a.sets 0 0) q ∙ rw (no_bit q) ((d.follows.summed 0 (omega arith)).set q h);
-    small = λ q h. no_more x q few h;
+  start_shows : get_or a.sets 0 0 < 18446744073709551616 → Shows (row (tables_in a) 0) (get_or a.sets 0 0) (eqb (get_or a.ends 0 0) 1)
+  start_shows few = record {
+    bits = (d.follows.summed 0 (omega arith)).set;
+    small = λ q h. no_more (get_or a.sets 0 0) q few h;
     ended = row_end 0 (omega arith);
   }
 
-  pub first_right : (f : Gathered) (x : ℕ) → Fronts (row_of a.rows a.lens 0) f → x ≡ bit_or 0 (get_or a.sets 0 0) → x < 18446744073709551616
-      → Stands r (made f x (eqb (get_or a.ends 0 0) 1)) (standing r [])
-  first_right f x g u few =
-      let w : Within (count r) (row_of a.rows a.lens 0) = rw d.follows.start (closure_within r d.numbered) in
-      made_right r d.most (row_of a.rows a.lens 0) (row_of a.rows a.lens 0) w w f x (eqb (get_or a.ends 0 0) 1) g (start_shows x u few) (standing r []) (rw d.follows.start start_shown)
+  pub first_right : (f : Front) → Fronts (row (tables_in a) 0) f → get_or a.sets 0 0 < 18446744073709551616 → Stands r (made f (get_or a.sets 0 0) (eqb (get_or a.ends 0 0) 1)) (standing r [])
+  first_right f g few =
+      let w : Within (count r) (row (tables_in a) 0) = rw d.follows.start (closure_within r d.numbered) in
+      made_right r d.most (row (tables_in a) 0) (row (tables_in a) 0) w w f _ _ g (start_shows few) (standing r []) (rw d.follows.start start_shown)
 
   -- The next standing.
   module _ (b : ℕ) (byte : b < 256) where
-    after_takes : (p : ℕ) → p < count r → outcomes_after (get_or a.masks b 0) a.rows a.lens p ≡ takes r b p
+    after_takes : (p : ℕ) → p < count r → outcomes_after (get_or a.masks b 0) (tables_in a) p ≡ takes r b p
     after_takes p h = rw (lt-ltb p 64 (omega (arith, d.most)), d.masked b p byte h, d.follows.after p h)
 
-    flat_takes : (l : List ℕ) → ((p : ℕ) → T (member p l) → p < count r) → flat (outcomes_after (get_or a.masks b 0) a.rows a.lens) l ≡ flat (takes r b) l
+    flat_takes : (l : List ℕ) → ((p : ℕ) → T (member p l) → p < count r) → flat (outcomes_after (get_or a.masks b 0) (tables_in a)) l ≡ flat (takes r b) l
     flat_takes [] h = refl
     flat_takes (p ∷ l) h = rw (after_takes p (h p (or_left (eqb p p) (member p l) (eqb_refl p))), flat_takes l λ q t. h q (or_right (eqb q p) (member q l) t))
 
@@ -125,7 +125,7 @@ module _ {a : Arrays} {r : Re} (d : Lent r a) where
 
     module _ (set : ℕ) (fine : (p : ℕ) → count r ≤ p → has_bit set p ≡ false) where
       -- A test of the row of each leaf of the set that takes the byte.
-      each : (x : ℕ) (g : ℕ → Bool) → ((p : ℕ) → p < count r → g p ≡ member x (row_of a.rows a.lens (suc p)))
+      each : (x : ℕ) (g : ℕ → Bool) → ((p : ℕ) → p < count r → g p ≡ member x (row (tables_in a) (suc p)))
           → any (λ p. goes set (get_or a.masks b 0) p && g p) (from 0 64) ≡ member x (flat (takes r b) (filter (has_bit set) (from 0 (count r))))
       each x g h =
           any_cut (λ p. goes set (get_or a.masks b 0) p && g p) (λ p. has_bit set p && member x (takes r b p)) (count r) 64 d.most
@@ -145,7 +145,7 @@ module _ {a : Arrays} {r : Re} (d : Lent r a) where
         ended = g.some ∙ each 0 (λ p. eqb (get_or a.ends (suc p) 0) 1) (λ p k. row_end (suc p) (omega arith));
       }
 
-    pub next_right : (s : Standing) {z : Theory.Standing} → Stands r s z → (f : Gathered) (w : Wants) → Fronts (flat (outcomes_after (get_or a.masks b 0) a.rows a.lens) (take (min s.n 64) s.list)) f
+    pub next_right : (s : Standing) {z : Theory.Standing} → Stands r s z → (f : Front) (w : Wants) → Fronts (flat (outcomes_after (get_or a.masks b 0) (tables_in a)) (take (min s.n 64) s.list)) f
         → Wanted (goes s.all (get_or a.masks b 0)) a.sets a.ends w → Stands r (made f w.all w.some) (next r z b)
     next_right s stands f w g c =
         let fine = stands.fine in

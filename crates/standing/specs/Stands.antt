@@ -7,6 +7,8 @@ use Rattle.theory.specs.Standing as Theory
 use Rattle.theory.specs.Code.Next.{next}
 use Rattle.theory.specs.Code.Members.{Once}
 use Rattle.words.specs.Sets.{has_bit}
+use Rattle.follow.specs.declared.Tables.{Tables}
+use Rattle.follow.specs.declared.TablesView.{TablesView}
 use Rattle.follow.specs.Rows.{Follows}
 use Rattle.standing.specs.declared.Standing.{Standing}
 
@@ -25,11 +27,19 @@ pub record Arrays : Type 0 where
 abbrev pub arrays : List ℕ → List ℕ → List ℕ → List ℕ → List ℕ → Arrays
 arrays masks rows lens sets ends = record { masks = masks; rows = rows; lens = lens; sets = sets; ends = ends }
 
+-- The arrays that a view lends.
+abbrev pub arrays_of : TablesView → Arrays
+arrays_of t = arrays t.masks.now t.rows.now t.lens.now t.sets.now t.ends.now
+
+-- The follow tables among them.
+abbrev pub tables_in : Arrays → Tables
+tables_in a = record { rows = a.rows; lens = a.lens; sets = a.sets; ends = a.ends }
+
 -- They are those of the pattern r: the follow tables, and bit p of the mask of a byte for the leaf p.
 pub record Lent (r : Re) (a : Arrays) : Type 0 where
   pub numbered : Numbered 0 r
   pub most : count r ≤ 64
-  pub follows : Follows r (record { rows = a.rows; lens = a.lens; sets = a.sets; ends = a.ends })
+  pub follows : Follows r (tables_in a)
   pub masked : (b p : ℕ) → b < 256 → p < count r → has_bit (get_or a.masks b 0) p ≡ has r p b
   pub spare : (b p : ℕ) → b < 256 → count r ≤ p → has_bit (get_or a.masks b 0) p ≡ false
 

@@ -2,13 +2,16 @@
 // (a) and (b) come from (a) in order, (c) and (d) from the set (c); both look up the follow tables, whose row 0 is the start's and row p + 1 the leaf p's.
 #![tactic(auto)]
 
-ghost use Rattle.std.specs.Prelude.{◌≡◌, false, ◌||◌, [], ◌∷◌, suc, ◌+◌, ◌*◌, ◌≤◌, ◌<◌, min, length, get_or, take, eqb};
+ghost use Rattle.std.specs.Prelude.{◌≡◌, false, ◌||◌, [], ◌∷◌, suc, ◌≤◌, ◌<◌, get_or};
 ghost use Rattle.theory.specs.Code.Closure.{flat};
-ghost use Rattle.standing.specs.Stands.{arrays, First, Carried};
-ghost use Rattle.standing.specs.Reads.{gathered, Sound, Read, Fronts, Blank, row_of, outcomes_after};
+ghost use Rattle.follow.specs.Views.{shown};
+ghost use Rattle.standing.specs.Stands.{arrays_of, First, Carried};
+ghost use Rattle.standing.specs.Reads.{Sound, Read, Fronts, outcomes_after};
 ghost use Rattle.standing.specs.Sets.{goes, Joined, Wanted};
 
-#[derive(Clone, Copy)]
+use follow::TablesView;
+
+#[derive(Clone, Copy, PartialEq, Eq)]
 pub struct Standing {
     // (a): the first n of the list
     pub list: [u8; 64],
@@ -21,14 +24,16 @@ pub struct Standing {
     pub some: bool,
 }
 
-// The leaves before the first end, as they are gathered from outcomes: the first n of a list that is lent beside it, so that no list is copied on the way.
-#[derive(Clone, Copy)]
+// The leaves before the first end, as they are gathered from outcomes. In `threads` a leaf has a slot as well, so its state is another.
+#[derive(Drop)]
 struct Front {
+    // the first n of the list
+    list: [u8; 64],
     n: usize,
     // the same leaves as bits
     seen: u64,
-    // 1 if an end was there: what comes after it counts for nothing. A number, so that the struct goes through registers
-    ends: usize,
+    // whether an end was there: what comes after it counts for nothing
+    ends: bool,
 }
 
 // All wanted leaves, and whether there is an end.
@@ -38,147 +43,102 @@ struct Wants {
     some: bool,
 }
 
-// Where row k ends: no later than the array.
-fn row_end(k: usize, rows: &[u8; 4225], lens: &[u8; 65]) -> usize
-    requires { k ≤ 64 }
-    ensures { (result ≤ 4225) × (result ≡ min (65 * k + get_or lens.now k 0) (length rows.now)) }
-{
-    words::least(65 * k + words::wide(lens[k]), words::length_of(rows))
-}
-
 impl Front {
     fn empty() -> Front
-        ensures { Blank result }
+        ensures { Fronts [] result }
     {
         Front {
+            list: [0; 64],
             n: 0,
             seen: 0,
-            ends: 0,
+            ends: false,
         }
     }
 
     // The leaf p, unless it is there.
-    fn add(self, p: usize, list: &mut [u8; 64]) -> Front
-        requires { Sound (gathered list.old self) × (p < 64) × (eqb self.ends 1 ≡ false) }
-        ensures { Read (gathered list.old self) (suc p ∷ []) (gathered list.new result) }
+    fn add(&mut self, p: usize)
+        requires { Sound self.old × (p < 64) × (self.old.ends ≡ false) }
+        ensures { Read self.old (suc p ∷ []) self.new }
     {
-        if words::has(self.seen, p) {
-            return self;
-        }
-        let n = self.n;
-        list[n] = p as u8;
-        Front {
-            n: n + 1,
-            seen: words::with(self.seen, p),
-            ends: self.ends,
+        if !words::has(self.seen, p) {
+            self.list[self.n] = p as u8;
+            self.n += 1;
+            self.seen = words::with(self.seen, p);
         }
     }
 
     // One outcome more: 0 is the end, and p + 1 the leaf p.
-    fn read(self, x: usize, list: &mut [u8; 64]) -> Front
-        requires { Sound (gathered list.old self) × (eqb self.ends 1 ≡ false) }
-        ensures { Read (gathered list.old self) (x ∷ []) (gathered list.new result) }
+    fn read(&mut self, x: usize)
+        requires { Sound self.old × (self.old.ends ≡ false) }
+        ensures { Read self.old (x ∷ []) self.new }
     {
         if x == 0 {
-            return Front {
-                n: self.n,
-                seen: self.seen,
-                ends: 1,
-            };
+            self.ends = true;
+        } else if x <= words::LEAVES {
+            self.add(x - 1);
         }
-        if x <= 64 {
-            return self.add(x - 1, list);
-        }
-        self
     }
 
-    // The outcomes of row k in order, up to the first end.
-    fn read_row(self, k: usize, rows: &[u8; 4225], lens: &[u8; 65], list: &mut [u8; 64]) -> Front
-        requires { Sound (gathered list.old self) × (k ≤ 64) }
-        ensures { Read (gathered list.old self) (row_of rows.now lens.now k) (gathered list.new result) }
+    // The outcomes of a row in order, up to the first end.
+    fn read_row(&mut self, row: &[u8])
+        requires { Sound self.old }
+        ensures { Read self.old row.now self.new }
     {
-        let end = row_end(k, rows, lens);
-        let mut r = self;
-        let mut i = 65 * k;
-        while i < end {
-            if r.ends == 1 {
-                return r;
+        for x in row {
+            if self.ends {
+                return;
             }
-            r = r.read(words::wide(rows[i]), list);
-            i += 1;
+            self.read(usize::from(*x));
         }
-        r
     }
 
     // The outcomes after a byte of the leaf p, where the mask is the byte's.
-    fn read_leaf(
-        self,
-        p: usize,
-        mask: u64,
-        rows: &[u8; 4225],
-        lens: &[u8; 65],
-        list: &mut [u8; 64],
-    ) -> Front
-        requires { Sound (gathered list.old self) }
-        ensures { Read (gathered list.old self) (outcomes_after mask rows.now lens.now p) (gathered list.new result) }
+    fn read_leaf(&mut self, p: usize, mask: u64, tables: TablesView)
+        requires { Sound self.old }
+        ensures { Read self.old (outcomes_after mask (shown tables.entry) p) self.new }
     {
-        if p < 64 {
-            if words::has(mask, p) {
-                return self.read_row(p + 1, rows, lens, list);
-            }
+        if p < words::LEAVES && words::has(mask, p) {
+            self.read_row(tables.row(p + 1));
         }
-        self
     }
 }
 
-// The outcomes after a byte of the first n leaves of `from`, in order, up to the first end.
-fn front_after<'a>(
-    from: &'a [u8; 64],
-    n: usize,
-    mask: u64,
-    rows: &'a [u8; 4225],
-    lens: &'a [u8; 65],
-    list: &mut [u8; 64],
-) -> Front
-    requires { (length from.now ≡ 64) × (length list.old ≡ 64) }
-    ensures { Fronts (flat (outcomes_after mask rows.now lens.now) (take (min n 64) from.now)) (gathered list.new result) }
+// The outcomes after a byte of these leaves, in order, up to the first end.
+fn front_after(leaves: &[u8], mask: u64, tables: TablesView) -> Front
+    ensures { Fronts (flat (outcomes_after mask (shown tables.entry)) leaves.now) result }
 {
-    let most = words::least(n, 64);
-    let mut r = Front::empty();
-    let mut i = 0;
-    while i < most {
-        if r.ends == 1 {
-            return r;
+    let mut front = Front::empty();
+    for p in leaves {
+        if front.ends {
+            return front;
         }
-        r = r.read_leaf(words::wide(from[i]), mask, rows, lens, list);
-        i += 1;
+        front.read_leaf(usize::from(*p), mask, tables);
     }
-    r
+    front
 }
 
-// w with the row of the leaf p.
-fn join(w: Wants, p: usize, sets: &[u64; 65], ends: &[u8; 65]) -> Wants
-    requires { p < 64 }
-    ensures { Joined sets.now ends.now w p result }
-{
-    Wants {
-        all: words::union(w.all, sets[p + 1]),
-        some: words::either(w.some, ends[p + 1] == 1),
+impl Wants {
+    // The same with the row of the leaf p.
+    fn join(&mut self, p: usize, tables: TablesView)
+        requires { p < 64 }
+        ensures { Joined tables.entry.sets.now tables.entry.ends.now self.old p self.new }
+    {
+        self.all |= tables.sets[p + 1];
+        self.some |= tables.ends[p + 1] == 1;
     }
 }
 
 // The outcomes after a byte of all leaves of the set `from`, where the mask is the byte's: only the leaves of both are looked at.
-fn wants_after(from: u64, mask: u64, sets: &[u64; 65], ends: &[u8; 65]) -> Wants
-    ensures { Wanted (goes from mask) sets.now ends.now result }
+fn wants_after(from: u64, mask: u64, tables: TablesView) -> Wants
+    ensures { Wanted (goes from mask) tables.entry.sets.now tables.entry.ends.now result }
 {
     let mut w = Wants {
         all: 0,
         some: false,
     };
     let mut rest = from & mask;
-    while rest != 0 {
-        let t = words::take_least(rest);
-        w = join(w, t.leaf, sets, ends);
+    while let Some(t) = words::take_least(rest) {
+        w.join(t.leaf, tables);
         rest = t.rest;
     }
     w
@@ -186,44 +146,30 @@ fn wants_after(from: u64, mask: u64, sets: &[u64; 65], ends: &[u8; 65]) -> Wants
 
 impl Standing {
     // The standing of the empty line.
-    pub fn initial<'a>(
-        masks: &'a [u64; 256],
-        rows: &'a [u8; 4225],
-        lens: &'a [u8; 65],
-        sets: &'a [u64; 65],
-        ends: &'a [u8; 65],
-    ) -> Standing
-        ensures first { First (arrays masks.now rows.now lens.now sets.now ends.now) result }
+    pub fn initial(tables: TablesView) -> Standing
+        ensures first { First (arrays_of tables.entry) result }
     {
-        let mut list = [0u8; 64];
-        let front = Front::empty().read_row(0, rows, lens, &mut list);
+        let mut front = Front::empty();
+        front.read_row(tables.row(0));
+        let all = tables.sets[0];
         Standing {
-            list,
+            list: front.list,
             n: front.n,
-            first: front.ends == 1,
-            // as a result it is known to be a number of 64 bits
-            all: words::union(0, sets[0]),
-            some: ends[0] == 1,
+            first: front.ends,
+            all,
+            some: tables.ends[0] == 1,
         }
     }
 
     // The standing after one byte more.
-    pub fn next<'a>(
-        self,
-        byte: u8,
-        masks: &'a [u64; 256],
-        rows: &'a [u8; 4225],
-        lens: &'a [u8; 65],
-        sets: &'a [u64; 65],
-        ends: &'a [u8; 65],
-    ) -> Standing
-        ensures next { Carried (arrays masks.now rows.now lens.now sets.now ends.now) self byte result }
+    pub fn next(self, byte: u8, tables: TablesView) -> Standing
+        ensures next { Carried (arrays_of tables.entry) self byte result }
     {
-        let mask = masks[words::wide(byte)];
-        let mut list = [0u8; 64];
-        let front = front_after(&self.list, self.n, mask, rows, lens, &mut list);
-        let first = front.ends == 1;
-        let wants = wants_after(self.all, mask, sets, ends);
+        let mask = tables.masks[usize::from(byte)];
+        let front = front_after(&self.list[..self.n.min(words::LEAVES)], mask, tables);
+        let list = front.list;
+        let first = front.ends;
+        let wants = wants_after(self.all, mask, tables);
         Standing {
             list,
             n: front.n,

@@ -1,7 +1,7 @@
 -- The pass that keeps all leaves that any start wants as one set: each start since `base` has had no end, and what it wants is in the set.
 -- Assumes nothing.
 use mathlib.Core.Path.{◌≡◌, refl, sym, ap, ◌∙◌, subst}
-use mathlib.Core.Bool.{true, false, cond, true≢false}
+use mathlib.Core.Bool.{true, false, true≢false}
 use mathlib.Core.List.{List}
 use Prim.Native.Nat.{ℕ, zero, suc, ◌+◌, ◌-◌, ◌≤◌, ◌<◌}
 use native.Mathlib.Omega.{arith}
@@ -9,7 +9,7 @@ use native.Mathlib.Decide.{ℕ_discrete}
 use lib.ListN.{length, get_or, drop}
 use lib.Dec.{T, eqb}
 use lib.Bits.{bit_and, bit_or}
-use borrow.Author.Tests.{eqb-true, eq-eqb, ne_eqb}
+use borrow.Author.Tests.{eqb-true}
 use Rattle.theory.specs.Pattern.{Re, count}
 use Rattle.theory.specs.Standing.{wanted, member, set_of, from}
 use Rattle.theory.specs.Code.Follow.{has_end}
@@ -28,7 +28,8 @@ use Rattle.facts.proofs.Taken.{union_first, union_second, untaken, agree, no_end
 use Rattle.blocks.specs.Blocks.{firsts}
 use Rattle.blocks.specs.Answer.{later}
 use Rattle.blocks.proofs.Opening.{afters_same, jumped, Held, held_none, held_next, held_empty, held_quiet}
-use Rattle.starts.specs.Opens.{Watched, Resumed, Opened}
+use Rattle.std.specs.Prelude.{Option, Some, None}
+use Rattle.starts.specs.Opens.{Watched, Opened}
 
 -- No leaf of a number that is one of the three.
 no_bits : (x y z p : ℕ) → bit_and (bit_and x y) z ≡ 0 → has_bit x p ≡ true → has_bit y p ≡ true → has_bit z p ≡ true → ⊥
@@ -127,32 +128,27 @@ module _ {masks sets next : List ℕ} {begins closes : How} {w : List ℕ} where
               let z : suc i + (j - suc i) ≡ j = omega arith in
               subst (λ k. Held r w base k (leaves_in (count r) to)) z (stays r moves nexts bytes same (j - suc i) (suc i) (omega (arith, within)) (λ k a b. (passed.alike k (omega arith) (omega arith)).1) first)
 
-      pub opening_turn : {k base' : ℕ} → Resumed to masks w (get_or sets 0 0) begins j k → base' ≡ cond (eqb to 0) k base → Opening masks sets next begins closes w base' k to
-      opening_turn {k} {base'} resumed is = go (ℕ_discrete to 0)
-        where
-          go : Dec (to ≡ 0) → Opening masks sets next begins closes w base' k to
-          go (yes z) =
-              let s = resumed.jumped z in
-              rw (is, eq-eqb to 0 z)
-              (record {
-                before = omega arith;
-                in_line = s.within within;
-                held = λ {r} moves nexts finds bytes. held_none r w k (leaves_in (count r) to);
-                whole = λ {r} moves nexts finds bytes.
-                    sym (leapt moves finds bytes j k within s)
-                    ∙ sym (held_empty r w base j (omega (arith, inv.before, passed.more)) within (subst (Held r w base j) (none_in to (from 0 (count r)) z) (run moves nexts finds bytes)))
-                    ∙ inv.whole moves nexts finds bytes;
-              })
-          go (no n) =
-              let e = resumed.stays n in
-              rw (is, ne_eqb to 0 n, e)
-              (record { before = omega (arith, inv.before, passed.more); in_line = within; held = run; whole = inv.whole })
+      -- Where no leaf is wanted, bytes that begin no match are passed over,
+      pub opening_jump : {k : ℕ} → to ≡ 0 → Sought masks w (get_or sets 0 0) begins j k → Opening masks sets next begins closes w k k to
+      opening_jump {k} z s = record {
+        before = omega arith;
+        in_line = s.within within;
+        held = λ {r} moves nexts finds bytes. held_none r w k (leaves_in (count r) to);
+        whole = λ {r} moves nexts finds bytes.
+            sym (leapt moves finds bytes j k within s)
+            ∙ sym (held_empty r w base j (omega (arith, inv.before, passed.more)) within (subst (Held r w base j) (none_in to (from 0 (count r)) z) (run moves nexts finds bytes)))
+            ∙ inv.whole moves nexts finds bytes;
+      }
+
+      -- and else it goes on there.
+      pub opening_on : Opening masks sets next begins closes w base j to
+      opening_on = record { before = omega (arith, inv.before, passed.more); in_line = within; held = run; whole = inv.whole }
 
   -- An end is near, no end can come any more, and the line is over.
-  pub opening_found : {base i set : ℕ} → Opening masks sets next begins closes w base i set → Opened masks sets next begins closes w (record { some = 1; at = base })
+  pub opening_found : {base i set : ℕ} → Opening masks sets next begins closes w base i set → Opened masks sets next begins closes w (Some base)
   opening_found inv = record { opens = λ moves nexts begins closes bytes. inv.whole moves nexts begins bytes }
 
-  pub opening_over : {base i set stop : ℕ} → Opening masks sets next begins closes w base i set → Watched masks w (get_or next 256 0) closes i stop → stop ≡ 0 → Opened masks sets next begins closes w (record { some = 0; at = 0 })
+  pub opening_over : {base i set : ℕ} {stop : Option ℕ} → Opening masks sets next begins closes w base i set → Watched masks w (get_or next 256 0) closes i stop → stop ≡ None → Opened masks sets next begins closes w None
   opening_over {base} {i} {set} inv watched z = record {
     opens = λ {r} moves nexts begins closes bytes.
         sym (held_quiet r w base i (leaves_in (count r) set) inv.before inv.in_line (inv.held moves nexts begins bytes) λ k a b m.
@@ -160,7 +156,7 @@ module _ {masks sets next : List ℕ} {begins closes : How} {w : List ℕ} where
         ∙ inv.whole moves nexts begins bytes;
   }
 
-  pub opening_end : {base i set : ℕ} → Opening masks sets next begins closes w base i set → length w ≤ i → Opened masks sets next begins closes w (record { some = 0; at = 0 })
+  pub opening_end : {base i set : ℕ} → Opening masks sets next begins closes w base i set → length w ≤ i → Opened masks sets next begins closes w None
   opening_end {base} {i} {set} inv h = record {
     opens = λ {r} moves nexts begins closes bytes.
         sym (held_quiet r w base i (leaves_in (count r) set) inv.before inv.in_line (inv.held moves nexts begins bytes) (λ k a b. absurd (omega arith))) ∙ inv.whole moves nexts begins bytes;

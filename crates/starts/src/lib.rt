@@ -3,45 +3,53 @@
 // Where none does, blocks of leaves are kept in order of start, a leaf only in the first block that has it. No buffer grows with the line.
 #![tactic(auto)]
 
-ghost use Rattle.std.specs.Prelude.{◌≡◌, cond, ◌+◌, ◌≤◌, ◌<◌, get_or, eqb};
-ghost use Rattle.standing.specs.Stands.{arrays};
-ghost use Rattle.facts.specs.Known.{facts};
-ghost use Rattle.starts.specs.Spans.{span_of, Found};
-ghost use Rattle.starts.specs.Blocks.{Sized, Without, Stored, On, OnBlock, OnAll, Stepped, Kept, Finished, Searched};
-ghost use Rattle.starts.specs.Opens.{Watched, Resumed, Opened};
+ghost use Rattle.std.specs.Prelude.{◌≡◌, ◌≤◌, ◌<◌};
+ghost use Rattle.facts.specs.Known.{facts_in, how_at};
+ghost use Rattle.starts.specs.Spans.{Found};
+ghost use Rattle.starts.specs.Blocks.{Sized, first_of, Without, Stored, On, OnBlock, OnAll, Stepped, Kept, Finished, Searched};
+ghost use Rattle.starts.specs.Opens.{Watched, Opened};
 
-use ends::End;
-use seeking::How;
+use facts::FactsView;
+use follow::TablesView;
+use seeking::{Alike, How, Wanted};
 
-// A span if `some` is 1, or none. Numbers only, so that the struct goes through registers.
+// A span of a line.
 #[derive(Clone, Copy)]
-pub struct Best {
-    pub some: usize,
+pub struct Span {
     pub start: usize,
     pub end: usize,
 }
 
-impl Best {
-    // No span.
-    fn nowhere() -> Best
-        ensures { result ≡ record { some = 0; start = 0; end = 0 } }
-    {
-        Best {
-            some: 0,
-            start: 0,
-            end: 0,
-        }
-    }
+// Blocks in order of start: the first n of both arrays.
+#[derive(Drop)]
+struct Blocks {
+    sets: [u64; 64],
+    starts: [usize; 64],
+    n: usize,
 }
 
-// The blocks that a byte has carried on so far: how many, and their leaves. Closed is 1 if a block got an end: it closes all later ones, and its span is the best.
+// How many blocks there are, and the first of them.
+#[derive(Clone, Copy, PartialEq, Eq)]
+struct First {
+    n: usize,
+    set: u64,
+    start: usize,
+}
+
+// What a byte has carried on so far: the leaves of the blocks, and the span of the first block that got an end, which closes all later ones.
 #[derive(Clone, Copy)]
 struct Carry {
-    n: usize,
     taken: u64,
-    closed: usize,
-    start: usize,
+    found: Option<Span>,
+}
+
+// A byte's turn: the place after it, its mask, the leaves after which an end stands, and the rows' sets.
+#[derive(Clone, Copy)]
+struct Turn<'a> {
     end: usize,
+    mask: u64,
+    ending: u64,
+    sets: &'a [u64; 65],
 }
 
 // So many bytes at least are read before a byte that can end a match is looked for again.
@@ -54,408 +62,261 @@ fn without(x: u64, y: u64) -> u64
     x ^ x & y
 }
 
-// A block behind the others, unless its set is empty.
-fn keep(n: usize, start: usize, set: u64, blocks: &mut [u64; 64], starts: &mut [usize; 64]) -> usize
-    requires { Sized blocks.old starts.old }
-    ensures { Stored n start set blocks.old starts.old blocks.new starts.new result }
-{
-    if set == 0 {
-        return n;
+impl Blocks {
+    fn none() -> Blocks
+        ensures sized { Sized result }
+        ensures none { result.n ≡ 0 }
+    {
+        Blocks {
+            sets: [0; 64],
+            starts: [0; 64],
+            n: 0,
+        }
     }
-    if n < 64 {
-        blocks[n] = set;
-        starts[n] = start;
-        return n + 1;
-    }
-    n
-}
 
-// A block that a byte takes to the set `to`, by the leaves `took`.
-fn carry_on(
-    c: Carry,
-    start: usize,
-    end: usize,
-    took: u64,
-    to: u64,
-    ending: u64,
-    blocks: &mut [u64; 64],
-    starts: &mut [usize; 64],
-) -> Carry
-    requires { Sized blocks.old starts.old × (c.n ≤ 64) }
-    ensures { On c start end took to ending blocks.old starts.old blocks.new starts.new result }
-{
-    let set = without(to, c.taken);
-    let n = keep(c.n, start, set, blocks, starts);
-    if took & ending != 0 {
-        return Carry {
-            n,
-            taken: c.taken | set,
-            closed: 1,
+    fn first(&self) -> First
+        ensures { result ≡ first_of self.now }
+    {
+        First {
+            n: self.n,
+            set: self.sets[0],
+            start: self.starts[0],
+        }
+    }
+
+    // A block behind the others, unless its set is empty.
+    fn keep(&mut self, start: usize, set: u64)
+        requires { Sized self.old }
+        ensures { Stored start set self.old self.new }
+    {
+        if set == 0 {
+            return;
+        }
+        if self.n < 64 {
+            self.sets[self.n] = set;
+            self.starts[self.n] = start;
+            self.n += 1;
+        }
+    }
+
+    // A block that a byte takes to the set `to`, by the leaves `took`.
+    fn carry_on(&mut self, c: Carry, start: usize, took: u64, to: u64, turn: Turn) -> Carry
+        requires { Sized self.old × (self.old.n ≤ 64) }
+        ensures { On c start turn.entry.end took to turn.entry.ending self.old self.new result }
+    {
+        let set = without(to, c.taken);
+        self.keep(start, set);
+        let span = Span {
             start,
-            end,
+            end: turn.end,
         };
+        Carry {
+            taken: c.taken | set,
+            found: (took & turn.ending != 0).then_some(span),
+        }
     }
-    Carry {
-        n,
-        taken: c.taken | set,
-        closed: 0,
-        start: 0,
-        end: 0,
+
+    // The block at q.
+    fn carry_block(&mut self, c: Carry, q: usize, turn: Turn) -> Carry
+        requires { Sized self.old × (self.old.n ≤ q) × (q < 64) }
+        ensures { OnBlock turn.entry.sets.now c q turn.entry.end turn.entry.mask turn.entry.ending self.old self.new result }
+    {
+        let start = self.starts[q];
+        let took = self.sets[q] & turn.mask;
+        let to = facts::carried(took, turn.sets);
+        self.carry_on(c, start, took, to, turn)
     }
-}
 
-// The block at q.
-fn carry_block<'a>(
-    c: Carry,
-    q: usize,
-    end: usize,
-    mask: u64,
-    ending: u64,
-    sets: &'a [u64; 65],
-    blocks: &mut [u64; 64],
-    starts: &mut [usize; 64],
-) -> Carry
-    requires { Sized blocks.old starts.old × (c.n ≤ q) × (q < 64) }
-    ensures { OnBlock sets.now c q end mask ending blocks.old starts.old blocks.new starts.new result }
-{
-    let took = blocks[q] & mask;
-    let to = facts::carried(took, sets);
-    carry_on(c, starts[q], end, took, to, ending, blocks, starts)
-}
+    // All of them, up to the first with an end. By number, since a block is put where an earlier one was.
+    fn carry_all(&mut self, turn: Turn) -> Carry
+        requires { Sized self.old × (self.old.n ≤ 64) }
+        ensures { OnAll turn.entry.sets.now turn.entry.end turn.entry.mask turn.entry.ending self.old self.new result }
+    {
+        let count = self.n;
+        self.n = 0;
+        let mut c = Carry {
+            taken: 0,
+            found: None,
+        };
+        for q in 0..count {
+            c = self.carry_block(c, q, turn);
+            if c.found.is_some() {
+                return c;
+            }
+        }
+        c
+    }
 
-// All n blocks, up to the first with an end.
-fn carry_all<'a>(
-    n: usize,
-    end: usize,
-    mask: u64,
-    ending: u64,
-    sets: &'a [u64; 65],
-    blocks: &mut [u64; 64],
-    starts: &mut [usize; 64],
-) -> Carry
-    requires { Sized blocks.old starts.old × (n ≤ 64) }
-    ensures { OnAll sets.now n end mask ending blocks.old starts.old blocks.new starts.new result }
-{
-    let mut c = Carry {
-        n: 0,
-        taken: 0,
-        closed: 0,
-        start: 0,
-        end: 0,
-    };
-    let mut q = 0;
-    while q < n {
-        if c.closed == 1 {
+    // The step by the byte at i where no span is found: the blocks, and behind them one for the start i.
+    fn step(&mut self, i: usize, next: u64, turn: Turn) -> Carry
+        requires { Sized self.old × (self.old.n ≤ 64) }
+        ensures { Stepped turn.entry.sets.now i turn.entry.end turn.entry.mask next turn.entry.ending self.old self.new result }
+    {
+        let c = self.carry_all(turn);
+        if c.found.is_some() {
             return c;
         }
-        c = carry_block(c, q, end, mask, ending, sets, blocks, starts);
-        q += 1;
+        self.carry_on(c, i, turn.sets[0] & turn.mask, next, turn)
     }
-    c
-}
 
-// The step by the byte at i where no span is found: the blocks, and behind them one for the start i.
-fn step<'a>(
-    n: usize,
-    i: usize,
-    end: usize,
-    mask: u64,
-    next: u64,
-    ending: u64,
-    sets: &'a [u64; 65],
-    blocks: &mut [u64; 64],
-    starts: &mut [usize; 64],
-) -> Carry
-    requires { Sized blocks.old starts.old × (n ≤ 64) }
-    ensures { Stepped sets.now n i end mask next ending blocks.old starts.old blocks.new starts.new result }
-{
-    let c = carry_all(n, end, mask, ending, sets, blocks, starts);
-    if c.closed == 1 {
-        return c;
-    }
-    carry_on(c, i, end, sets[0] & mask, next, ending, blocks, starts)
-}
-
-// The span if `is`, else the other.
-fn best_if(is: bool, start: usize, end: usize, other: Best) -> Best
-    ensures { result ≡ cond is (record { some = 1; start = start; end = end }) other }
-{
-    if is {
-        return Best {
-            some: 1,
-            start,
-            end,
-        };
-    }
-    other
-}
-
-// After a span is found: the blocks before it may still get an end.
-fn finish<'a>(
-    line: &'a [u8],
-    from: usize,
-    count: usize,
-    found: Best,
-    ending: u64,
-    masks: &'a [u64; 256],
-    sets: &'a [u64; 65],
-    blocks: &mut [u64; 64],
-    starts: &mut [usize; 64],
-) -> Best
-    requires { Sized blocks.old starts.old × (count ≤ 64) }
-    ensures { Finished masks.now sets.now line.now ending from count blocks.old starts.old found result }
-{
-    let mut n = count;
-    let mut best = found;
-    let mut i = from;
-    while i < line.len() {
-        if n == 0 {
-            return best;
-        }
-        if n == 1 {
-            let e = ends::last_end(
-                line,
-                i,
-                blocks[0],
-                End { some: 0, at: 0 },
+    // After a span is found: the blocks before it may still get an end.
+    fn finish(
+        &mut self,
+        line: &[u8],
+        from: usize,
+        found: Span,
+        ending: u64,
+        tables: TablesView,
+    ) -> Span
+        requires { Sized self.old × (self.old.n ≤ 64) }
+        ensures { Finished tables.entry.masks.now tables.entry.sets.now line.now ending from self.old found result }
+    {
+        let mut best = found;
+        for i in from..line.len() {
+            if self.n == 0 {
+                return best;
+            }
+            if self.n == 1 {
+                return match ends::last_end(line, i, self.sets[0], None, ending, tables) {
+                    Some(end) => Span {
+                        start: self.starts[0],
+                        end,
+                    },
+                    None => best,
+                };
+            }
+            let turn = Turn {
+                end: i + 1,
+                mask: tables.masks[usize::from(line[i])],
                 ending,
-                masks,
-                sets,
-            );
-            return best_if(e.some == 1, starts[0], e.at, best);
+                sets: tables.sets,
+            };
+            let c = self.carry_all(turn);
+            best = c.found.unwrap_or(best);
         }
-        let c = carry_all(
-            n,
-            i + 1,
-            masks[words::wide(line[i])],
-            ending,
-            sets,
-            blocks,
-            starts,
-        );
-        best = best_if(c.closed == 1, c.start, c.end, best);
-        n = c.n;
-        i += 1;
+        best
     }
-    best
 }
 
 // Whether a step by the byte at i kept one block as it was.
-fn is_still(i: usize, n: usize, set: u64, start: usize, m: usize, to: u64, from: usize) -> bool
-    ensures { Kept result i n set start m to from }
+fn is_still(i: usize, before: First, after: First) -> bool
+    ensures { Kept result i before after }
 {
-    if n != 1 {
-        return false;
-    }
-    if m != 1 {
-        return false;
-    }
-    if set != to {
-        return false;
-    }
-    if i <= start {
-        return false;
-    }
-    start == from
+    before == after && before.n == 1 && before.start < i
 }
 
-// The first start from a place on that has an end, with its last one, by blocks.
-fn search<'a>(
-    line: &'a [u8],
-    from: usize,
-    next: &'a [u64; 257],
-    masks: &'a [u64; 256],
-    sets: &'a [u64; 65],
-) -> Best
-    ensures { Searched masks.now sets.now next.now line.now from result }
+// The first start from a place on that has an end, with its last one, by blocks. The loop is no `for`: a turn goes past a whole run of bytes. Tables and facts are two
+// arguments: the struct that has both is of the crate above, which cuts lines.
+fn search(line: &[u8], from: usize, tables: TablesView, facts: FactsView) -> Option<Span>
+    ensures { Searched tables.entry.masks.now tables.entry.sets.now facts.entry.next.now line.now from result }
 {
-    let first = sets[0];
-    let ending = next[facts::ENDING];
-    let mut blocks = [0u64; 64];
-    let mut starts = [0usize; 64];
-    let mut n = 0;
+    let masks = tables.masks;
+    let ending = facts.ending();
+    let mut blocks = Blocks::none();
     let mut i = from;
     while i < line.len() {
-        let b = words::wide(line[i]);
-        let mask = masks[b];
-        let set = blocks[0];
-        let start = starts[0];
-        let c = step(
-            n,
-            i,
-            i + 1,
-            mask,
-            next[b],
+        let b = usize::from(line[i]);
+        let turn = Turn {
+            end: i + 1,
+            mask: masks[b],
             ending,
-            sets,
-            &mut blocks,
-            &mut starts,
-        );
-        if c.closed == 1 {
-            let found = Best {
-                some: 1,
-                start: c.start,
-                end: c.end,
-            };
-            return finish(
-                line,
-                i + 1,
-                c.n,
-                found,
-                ending,
-                masks,
-                sets,
-                &mut blocks,
-                &mut starts,
-            );
+            sets: tables.sets,
+        };
+        let before = blocks.first();
+        let c = blocks.step(i, facts.next[b], turn);
+        if let Some(found) = c.found {
+            return Some(blocks.finish(line, i + 1, found, ending, tables));
         }
-        let still = is_still(i, n, set, start, c.n, blocks[0], starts[0]);
-        let all = words::union(set, first);
-        n = c.n;
-        i = seeking::pass_if(still, line, i + 1, all, all & mask, masks);
+        let still = is_still(i, before, blocks.first());
+        let all = before.set | tables.sets[0];
+        let alike = Alike {
+            all,
+            kind: all & turn.mask,
+            masks,
+        };
+        i = seeking::pass_if(still, line, i + 1, alike);
     }
-    Best::nowhere()
+    None
 }
 
 // The same where mostly a match begins at the place itself: then no block is kept.
-fn span_from<'a>(
-    line: &'a [u8],
-    from: usize,
-    next: &'a [u64; 257],
-    masks: &'a [u64; 256],
-    sets: &'a [u64; 65],
-) -> Best
-    ensures { Searched masks.now sets.now next.now line.now from result }
+fn span_from(line: &[u8], from: usize, tables: TablesView, facts: FactsView) -> Option<Span>
+    ensures { Searched tables.entry.masks.now tables.entry.sets.now facts.entry.next.now line.now from result }
 {
-    let none = End { some: 0, at: 0 };
-    let e = ends::last_end(line, from, sets[0], none, next[facts::ENDING], masks, sets);
-    if e.some == 1 {
-        return Best {
-            some: 1,
-            start: from,
-            end: e.at,
-        };
+    match ends::last_end(line, from, tables.sets[0], None, facts.ending(), tables) {
+        Some(end) => Some(Span { start: from, end }),
+        None => search(line, from, tables, facts),
     }
-    search(line, from, next, masks, sets)
 }
 
-// How far the line may be read before a byte that can end a match is looked for again; 0 if there is none any more. Looked for are only few bytes: many are soon found.
-fn watch<'a>(
-    line: &'a [u8],
-    i: usize,
-    stop: usize,
-    ending: u64,
-    closes: How,
-    masks: &'a [u64; 256],
-) -> usize
-    ensures { Watched masks.now line.now ending closes i result }
+// How far the line may be read before a byte that can end a match is looked for again, if there is one still. Looked for are only few bytes: many are soon found.
+fn watch(line: &[u8], i: usize, stop: usize, ends: Wanted) -> Option<usize>
+    ensures { Watched ends.entry.masks.now line.now ends.entry.set ends.entry.how i result }
 {
     if i < stop {
-        return stop;
+        return Some(stop);
     }
-    if closes.way == 0 {
-        return line.len();
+    if let How::Any = ends.how {
+        return Some(line.len());
     }
-    let c = seeking::seek(line, i, ending, closes, masks);
+    let c = seeking::seek(line, i, ends);
     if line.len() <= c {
-        return 0;
+        return None;
     }
-    if line.len() - i <= STRETCH {
-        return line.len();
-    }
-    if c < i + STRETCH {
-        return i + STRETCH;
-    }
-    c + 1
+    Some(line.len().min(i.saturating_add(STRETCH)).max(c + 1))
 }
 
-// The next place to look at: where no leaf is wanted, the next whose byte begins a match.
-fn resume<'a>(
-    set: u64,
-    line: &'a [u8],
-    i: usize,
-    first: u64,
-    begins: How,
-    masks: &'a [u64; 256],
-) -> usize
-    ensures { Resumed set masks.now line.now first begins i result }
+// Of a pattern that does not match the empty line: a place before which no match begins, if there is a match. One set has all leaves that any start wants.
+// The loop is no `for`: a turn goes past a whole run of bytes, or to the next byte that begins a match.
+fn first_open(line: &[u8], tables: TablesView, facts: FactsView) -> Option<usize>
+    ensures { Opened tables.entry.masks.now tables.entry.sets.now facts.entry.next.now (how_at facts.entry.hows.now 0) (how_at facts.entry.hows.now 5) line.now result }
 {
-    if set == 0 {
-        return seeking::seek(line, i, first, begins, masks);
-    }
-    i
-}
-
-// The other place if the set is empty.
-fn base_if(set: u64, i: usize, base: usize) -> usize
-    ensures { result ≡ cond (eqb set 0) i base }
-{
-    if set == 0 { i } else { base }
-}
-
-// Of a pattern that does not match the empty line: a place before which no match begins, or none if there is no match. One set has all leaves that any start wants.
-fn first_open<'a>(
-    line: &'a [u8],
-    begins: How,
-    closes: How,
-    next: &'a [u64; 257],
-    masks: &'a [u64; 256],
-    sets: &'a [u64; 65],
-) -> End
-    ensures { Opened masks.now sets.now next.now begins closes line.now result }
-{
-    let first = sets[0];
-    let ending = next[facts::ENDING];
-    let mut base = seeking::seek(line, 0, first, begins, masks);
+    let masks = tables.masks;
+    let begins = Wanted {
+        set: tables.sets[0],
+        how: facts.begins(),
+        masks,
+    };
+    let ends = Wanted {
+        set: facts.ending(),
+        how: facts.closes(),
+        masks,
+    };
+    let mut base = seeking::seek(line, 0, begins);
     let mut i = base;
     let mut stop = base;
-    let mut set = 0u64;
+    let mut set = 0;
     while i < line.len() {
-        stop = watch(line, i, stop, ending, closes, masks);
-        if stop == 0 {
-            return End { some: 0, at: 0 };
+        stop = watch(line, i, stop, ends)?;
+        let b = usize::from(line[i]);
+        let all = set | begins.set;
+        let kind = all & masks[b];
+        if kind & ends.set != 0 {
+            return Some(base);
         }
-        let b = words::wide(line[i]);
-        let mask = masks[b];
-        let all = words::union(set, first);
-        let kind = all & mask;
-        if kind & ending != 0 {
-            return End { some: 1, at: base };
-        }
-        let to = words::union(facts::carried(set & mask, sets), next[b]);
-        let j = seeking::pass_if(set == to, line, i + 1, all, kind, masks);
+        let to = facts::carried(set & masks[b], tables.sets) | facts.next[b];
+        i = seeking::pass_if(set == to, line, i + 1, Alike { all, kind, masks });
         set = to;
-        i = resume(set, line, j, first, begins, masks);
-        base = base_if(set, i, base);
+        if set == 0 {
+            i = seeking::seek(line, i, begins);
+            base = i;
+        }
     }
-    End { some: 0, at: 0 }
+    None
 }
 
 // The POSIX span of a line. A pattern that matches the empty line begins at the first place.
-pub fn posix_span<'a>(
-    line: &'a [u8],
-    masks: &'a [u64; 256],
-    sets: &'a [u64; 65],
-    ends: &'a [u8; 65],
-    next: &'a [u64; 257],
-    hows: &'a [u8; 10],
-) -> Best
-    ensures found { Found masks.now sets.now ends.now (facts next.now hows.now) line.now result }
+pub fn posix_span(line: &[u8], tables: TablesView, facts: FactsView) -> Option<Span>
+    ensures found { Found tables.entry.masks.now tables.entry.sets.now tables.entry.ends.now (facts_in facts.entry) line.now result }
 {
-    if ends[0] == 1 {
-        let here = End { some: 1, at: 0 };
-        let e = ends::last_end(line, 0, sets[0], here, next[facts::ENDING], masks, sets);
-        return Best {
-            some: 1,
+    if tables.ends[0] == 1 {
+        let first = tables.sets[0];
+        let last = ends::last_end(line, 0, first, Some(0), facts.ending(), tables);
+        return Some(Span {
             start: 0,
-            end: e.at,
-        };
+            end: last.unwrap_or(0),
+        });
     }
-    let begins = facts::begins(hows);
-    let closes = facts::closes(hows);
-    let open = first_open(line, begins, closes, next, masks, sets);
-    if open.some != 1 {
-        return Best::nowhere();
-    }
-    span_from(line, open.at, next, masks, sets)
+    let from = first_open(line, tables, facts)?;
+    span_from(line, from, tables, facts)
 }

@@ -3,19 +3,21 @@
 use mathlib.Core.Path.{◌≡◌, refl, sym, ap, ap₂, ◌∙◌, subst}
 use mathlib.Core.Logic.{◌⊎◌, inl, inr}
 use Prim.Native.Nat.{ℕ, zero, suc, ◌+◌, ◌-◌, ◌≤◌, ◌<◌, min}
-use mathlib.Core.Bool.{true, false}
+use mathlib.Core.Bool.{true, false, true≢false}
 use mathlib.Core.List.{List}
 use native.Mathlib.Omega.{arith}
 use native.Mathlib.Nat.{sub-zero}
 use native.Mathlib.Decide.{ℕ_discrete, dec_lt}
 use borrow.Author.Tests.{eq-eqb, ne_eqb, lt-ltb, le-ltb, eqb-true, le-leb}
 use lib.Dec.{leb, leb→le}
-use lib.ListN.{length, length-append, get_or, take, drop}
-use lib.Seq.{ext_get_or, get_or-take, get_or-drop, take_all, slice, length-slice}
-use Rattle.theory.proofs.Tests.{not_true}
+use lib.ListN.{length, length-append, length-drop, get_or, take, drop}
+use lib.Seq.{ext_get_or, length-take-le, get_or-take, get_or-drop, take_all, slice, length-slice}
+use Rattle.theory.proofs.Tests.{not_true, either}
+use Rattle.std.specs.Option.{is_some}
 use Rattle.theory.specs.Standing.{from, filter}
 use Rattle.theory.proofs.Members.{filter_append}
-use Rattle.table.specs.Looks.{first_unequal, comparison_end, bytes_compared, same_standing}
+use Rattle.std.proofs.Common.{Option, None, Some, MatchOption}
+use Rattle.table.specs.Looks.{first_unequal, comparison_end, bytes_compared, same_standing, place_below}
 
 module _ (u v : List ℕ) where
   -- An equal byte is passed, at an unequal one the comparison ends.
@@ -66,6 +68,15 @@ module _ (u v : List ℕ) where
       let more : first_unequal n (suc i) u v ≡ suc i + n = unequal_none n (suc i) λ j h l. e j (omega arith) (omega arith) in
       omega (arith, unequal_next n i (e i (omega arith) (omega arith)), more)
 
+  -- and at an unequal byte after equal ones it is the place of that.
+  pub unequal_found : (n i j : ℕ) → i ≤ j → j < i + n → ((k : ℕ) → i ≤ k → k < j → get_or u k 0 ≡ get_or v k 0) → (get_or u j 0 ≡ get_or v j 0 → ⊥) → first_unequal n i u v ≡ j
+  unequal_found zero i j h l e d = absurd (omega arith)
+  unequal_found (suc n) i j h l e d =
+      elim (ℕ_discrete i j) [
+        | yes f ↦ unequal_here n i (λ g. d (subst (λ k. get_or u k 0 ≡ get_or v k 0) f g)) ∙ f
+        | no f ↦ unequal_next n i (e i (omega arith) (omega arith)) ∙ unequal_found n (suc i) j (omega arith) (omega arith) (λ k a b. e k (omega arith) b) d
+      ]
+
   pub unequal_most : (n i : ℕ) → first_unequal n i u v ≤ i + n
   unequal_most zero i = omega (arith, unequal_over i)
   unequal_most (suc n) i =
@@ -81,6 +92,27 @@ module _ (u v : List ℕ) where
         | yes e ↦ omega (arith, unequal_next n i e, unequal_least n (suc i))
         | no e ↦ omega (arith, unequal_here n i e)
       ]
+
+-- A place below the end, and the end.
+pub place_inside : (w i : ℕ) → i < w → place_below w i ≡ Some i
+place_inside w i h = rw (lt-ltb i w h)
+
+pub place_end : (w i : ℕ) → w ≤ i → place_below w i ≡ None
+place_end w i h = rw (le-ltb i w h)
+
+different : (i : ℕ) → Some i ≡ None → ⊥
+different i e = cc
+
+-- What a search for the first unequal byte says of two lists of n bytes: all are equal, or those before the place found.
+abbrev pub Unequal : List ℕ → List ℕ → ℕ → Option ℕ → Type 0
+Unequal u v n r = MatchOption r ((k : ℕ) → k < n → get_or u k 0 ≡ get_or v k 0)
+    (λ i. (i < n) × (get_or u i 0 ≡ get_or v i 0 → ⊥) × ((k : ℕ) → k < i → get_or u k 0 ≡ get_or v k 0))
+
+pub unequal_place : (u v : List ℕ) (n : ℕ) (r : Option ℕ) → Unequal u v n r → r ≡ place_below n (first_unequal n 0 u v)
+unequal_place u v n None e = sym (place_end n (first_unequal n 0 u v) (omega (arith, unequal_none u v n 0 (λ j h l. e j (omega arith)))))
+unequal_place u v n (Some i) (l, d, e) =
+    let here = unequal_found u v n 0 i (omega arith) (omega arith) (λ k h. e k) d in
+    sym (place_inside n (first_unequal n 0 u v) (omega arith) ∙ ap Some here)
 
 -- A comparison ends before the origin fields, or after them.
 module _ (w : ℕ) (u v : List ℕ) where
@@ -122,6 +154,18 @@ bytes_are w e =
     ap length (filter_append (λ i. leb i e) (from 0 10) (from 13 (w - 13)))
     ∙ length-append (filter (λ i. leb i e) (from 0 10)) (filter (λ i. leb i e) (from 13 (w - 13)))
     ∙ ap₂ ◌+◌ low high
+
+-- What a comparison found says whether the two records are of the same standing.
+module _ (w : ℕ) (least : 13 ≤ w) (u v : List ℕ) (r : Option ℕ) (e : r ≡ place_below w (comparison_end w u v)) where
+  pub none_alike : is_some r ≡ false → same_standing w u v ≡ true
+  none_alike f = go (dec_lt (comparison_end w u v) w)
+    where
+      go : Dec (comparison_end w u v < w) → same_standing w u v ≡ true
+      go (yes l) = absurd (let some = e ∙ place_inside w (comparison_end w u v) l in true≢false (sym (ap is_some some) ∙ f))
+      go (no l) = eq-eqb (comparison_end w u v) w (either (λ h. absurd (omega arith)) (λ (h, k). omega arith) (end_outside w least u v))
+
+  pub some_unlike : is_some r ≡ true → same_standing w u v ≡ false
+  some_unlike f = ne_eqb (comparison_end w u v) w λ h. (let none = e ∙ place_end w (comparison_end w u v) (omega arith) in true≢false (sym f ∙ ap is_some none))
 
 module _ (u v x y : List ℕ) where
   run_same : (n i : ℕ) → ((j : ℕ) → i ≤ j → j < i + n → j ≤ first_unequal n i u v → (get_or u j 0 ≡ get_or x j 0) × (get_or v j 0 ≡ get_or y j 0)) → first_unequal n i x y ≡ first_unequal n i u v
@@ -167,6 +211,77 @@ module _ (w : ℕ) (u v : List ℕ) where
   pub end_taken : 13 ≤ w → comparison_end w (take w u) (take w v) ≡ comparison_end w u v
   unfolding comparison_end
   end_taken h = rw (run_taken 10 0 (omega arith), run_taken (w - 13) 13 (omega arith))
+
+-- Both parts of a comparison, as the code has them: of the first ten bytes, and of those from byte 13 on.
+module _ (u v : List ℕ) where
+  run_later : (n i d : ℕ) → first_unequal n i (drop d u) (drop d v) + d ≡ first_unequal n (d + i) u v
+  run_later zero i d = omega (arith, unequal_over (drop d u) (drop d v) i, unequal_over u v (d + i))
+  run_later (suc n) i d =
+      let next : suc (d + i) ≡ d + suc i = omega arith in
+      elim (ℕ_discrete (get_or u (d + i) 0) (get_or v (d + i) 0)) [
+        | yes e ↦ (
+            let same : get_or (drop d u) i 0 ≡ get_or (drop d v) i 0 = get_or-drop d u i 0 ∙ e ∙ sym (get_or-drop d v i 0) in
+            ap (λ k. k + d) (unequal_next (drop d u) (drop d v) n i same) ∙ run_later n (suc i) d ∙ ap (λ k. first_unequal n k u v) (sym next) ∙ sym (unequal_next u v n (d + i) e)
+            )
+        | no e ↦ (
+            let other = unequal_here (drop d u) (drop d v) n i (λ f. e (sym (get_or-drop d u i 0) ∙ f ∙ get_or-drop d v i 0)) in
+            omega (arith, other, unequal_here u v n (d + i) e)
+            )
+      ]
+
+  module _ (least : 13 ≤ length u) where
+    front_is : first_unequal (length (take 10 u)) 0 (take 10 u) (take 10 v) ≡ first_unequal 10 0 u v
+    front_is = ap (λ n. first_unequal n 0 (take 10 u) (take 10 v)) (length-take-le 10 u (omega arith)) ∙ run_taken 10 u v 10 0 (omega arith)
+
+    pub front_found : (i : ℕ) → Some i ≡ place_below (length (take 10 u)) (first_unequal (length (take 10 u)) 0 (take 10 u) (take 10 v)) → Some i ≡ place_below (length u) (comparison_end (length u) u v)
+    front_found i e = go (dec_lt (first_unequal 10 0 u v) 10)
+      where
+        found : Some i ≡ place_below 10 (first_unequal 10 0 u v)
+        found = e ∙ ap₂ place_below (length-take-le 10 u (omega arith)) front_is
+
+        go : Dec (first_unequal 10 0 u v < 10) → Some i ≡ place_below (length u) (comparison_end (length u) u v)
+        go (yes l) = found ∙ place_inside 10 (first_unequal 10 0 u v) l ∙ sym (ap (place_below (length u)) (ends_before (length u) u v l) ∙ place_inside (length u) (first_unequal 10 0 u v) (omega arith))
+        go (no l) = absurd (different i (found ∙ place_end 10 (first_unequal 10 0 u v) (omega arith)))
+
+    -- The first ten bytes are equal, and x and y are the bytes from byte 13 on.
+    module _ (e : None ≡ place_below (length (take 10 u)) (first_unequal (length (take 10 u)) 0 (take 10 u) (take 10 v))) {x y : List ℕ} (p : x ≡ drop 13 u) (q : y ≡ drop 13 v) where
+      abbrev back : ℕ
+      back = first_unequal (length x) 0 x y
+
+      passed : 10 ≤ first_unequal 10 0 u v
+      passed = go (dec_lt (first_unequal 10 0 u v) 10)
+        where
+          go : Dec (first_unequal 10 0 u v < 10) → 10 ≤ first_unequal 10 0 u v
+          go (yes l) = absurd (different (first_unequal 10 0 u v) (sym (e ∙ ap₂ place_below (length-take-le 10 u (omega arith)) front_is ∙ place_inside 10 (first_unequal 10 0 u v) l)))
+          go (no l) = omega arith
+
+      size : length x + 13 ≡ length u
+      size = omega (arith, length-drop 13 u, ap length p)
+
+      back_is : comparison_end (length u) u v ≡ 13 + back
+      back_is =
+          let n : length u - 13 ≡ length x = omega (arith, size) in
+          let later : first_unequal (length x) 0 (drop 13 u) (drop 13 v) + 13 ≡ first_unequal (length x) 13 u v = run_later (length x) 0 13 in
+          let same : back ≡ first_unequal (length x) 0 (drop 13 u) (drop 13 v) = ap₂ (first_unequal (length x) 0) p q in
+          let whole : first_unequal (length u - 13) 13 u v ≡ first_unequal (length x) 13 u v = ap (λ m. first_unequal m 13 u v) n in
+          omega (arith, ends_after (length u) u v passed, later, same, whole)
+
+      pub back_found : (i : ℕ) → Some i ≡ place_below (length x) back → Some (13 + i) ≡ place_below (length u) (comparison_end (length u) u v)
+      back_found i f = go (dec_lt back (length x))
+        where
+          go : Dec (back < length x) → Some (13 + i) ≡ place_below (length u) (comparison_end (length u) u v)
+          go (yes l) =
+              let same = f ∙ place_inside (length x) back l in
+              let is : i ≡ back = cc in
+              ap (λ j. Some (13 + j)) is ∙ sym (ap (place_below (length u)) back_is ∙ place_inside (length u) (13 + back) (omega (arith, size)))
+          go (no l) = absurd (different i (f ∙ place_end (length x) back (omega arith)))
+
+      pub back_none : None ≡ place_below (length x) back → None ≡ place_below (length u) (comparison_end (length u) u v)
+      back_none f = go (dec_lt back (length x))
+        where
+          go : Dec (back < length x) → None ≡ place_below (length u) (comparison_end (length u) u v)
+          go (yes l) = absurd (different back (sym (f ∙ place_inside (length x) back l)))
+          go (no l) = sym (ap (place_below (length u)) back_is ∙ place_end (length u) (13 + back) (omega (arith, size)))
 
 -- Parts of two lists are equal if their bytes are.
 get_d_slice : (from to : ℕ) (x : List ℕ) (j : ℕ) → from + j < to → get_or (slice from to x) j 0 ≡ get_or x (from + j) 0

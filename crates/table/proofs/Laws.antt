@@ -73,6 +73,10 @@ slot_byte w t k i h = part_byte w t (w * k) i h
 pub slot_length : (w : ℕ) (t : List ℕ) (k : ℕ) → k < slot_count w (length t) → length (slot_at w t k) ≡ w
 slot_length w t k h = part_length w t (w * k) (slot_fits w (length t) k h)
 
+-- A slot that is there has as many bytes as a record of its width, which is one that a record has.
+pub slot_size : (w : ℕ) (t : List ℕ) (k : ℕ) (u : List ℕ) → k + 1 ≤ slot_count w (length t) → u ≡ slot_at w t k → (length u ≡ w) × (13 ≤ w) × (w ≤ 64)
+slot_size w t k u h e = let there : k < slot_count w (length t) = omega arith in let (least, most) = slots_width w (length t) k there in (ap length e ∙ slot_length w t k there, least, most)
+
 -- A store keeps the table's length.
 pub put_length : (w : ℕ) (t : List ℕ) (k : ℕ) (v : List ℕ) → length (put w t k v) ≡ length t
 put_length w t k v =

@@ -20,8 +20,10 @@ use Rattle.words.proofs.Bits.{no_bit}
 use Rattle.traces.specs.Traces.{Carried, ends_at, want}
 use Rattle.traces.specs.Fields.{first_way}
 use Rattle.traces.specs.Code.Pass.{Values, Thread}
-use Rattle.threads.specs.Slots.{Slots, Long, Holds, Marked, Moved}
-use Rattle.threads.specs.Reads.{State, order, Sound, blank, threads, leaves_of, AreThreads, entered, Found, Reads, LeafEntered}
+use Rattle.threads.specs.declared.Slot.{Slot}
+use Rattle.threads.specs.declared.State.{State}
+use Rattle.threads.specs.Slots.{Holds, Marked, Moved}
+use Rattle.threads.specs.Reads.{order, Sound, blank, threads, leaves_of, AreThreads, entered, Found, Reads, LeafEntered}
 use Rattle.traces.proofs.Pass.{way_append}
 use Rattle.threads.proofs.Entered.{entered_append}
 
@@ -38,26 +40,26 @@ threads_same : (v w : ℕ → Values) (l : List ℕ) → ((p : ℕ) → T (membe
 threads_same v w [] e = refl
 threads_same v w (p ∷ l) e = rw (e p (or_left (eqb p p) (member p l) (eqb_refl p)), threads_same v w l λ q t. e q (or_right (eqb q p) (member q l) t))
 
-pub leaves_same : {side : ℕ} {x : Slots} {l : List ℕ} {ts : List Thread} → AreThreads side x l ts → leaves_of ts ≡ l
+pub leaves_same : {side : ℕ} {x : List Slot} {l : List ℕ} {ts : List Thread} → AreThreads side x l ts → leaves_of ts ≡ l
 leaves_same {l = l} w = ap leaves_of (sym w.same) ∙ leaves_threads w.values l
 
 -- Nothing is entered.
-pub blank_sound : {list : List ℕ} {x : Slots} → length list ≡ 64 → Long x → Sound (blank list x)
+pub blank_sound : {list : List ℕ} {x : List Slot} → length list ≡ 64 → length x ≡ 129 → Sound (blank list x)
 blank_sound long h = record { long = long; slots = h; size = omega arith; marked = λ p. no_bit p; below = λ p t. absurd t; apart = nil }
 
 -- One list and then another; and any other where a way has ended.
 module _ {side n : ℕ} where
-  pub reads_none : {f : State} → f.ended ≡ 0 → Reads side n f [] f
+  pub reads_none : {f : State} → f.ended ≡ false → Reads side n f [] f
   reads_none e = record { threads = λ s. s; found = e; kept = λ z o h. h }
 
-  found_none : {l : List (Carried Values)} {f g : State} → Reads side n f l g → g.ended ≡ 0 → first_way l ≡ none
+  found_none : {l : List (Carried Values)} {f g : State} → Reads side n f l g → g.ended ≡ false → first_way l ≡ none
   found_none {l} {f} {g} a e = go (first_way l) a.found
     where
       go : (o : Option Thread) → Found n g o → o ≡ none
       go none h = refl
-      go (some t) h = absurd (omega (arith, h.0))
+      go (some t) h = absurd (true≢false (sym h.0 ∙ e))
 
-  pub reads_append : {l m : List (Carried Values)} {f g h : State} → Reads side n f l g → g.ended ≡ 0 → Reads side n g m h → Reads side n f (l ++ m) h
+  pub reads_append : {l m : List (Carried Values)} {f g h : State} → Reads side n f l g → g.ended ≡ false → Reads side n g m h → Reads side n f (l ++ m) h
   reads_append {l} {m} a going b =
       let e = found_none a going in
       record {
@@ -66,7 +68,7 @@ module _ {side n : ℕ} where
         kept = λ z o h. b.kept z o (a.kept going o h);
       }
 
-  pub reads_over : {l : List (Carried Values)} {f g : State} (m : List (Carried Values)) → Reads side n f l g → (g.ended ≡ 0 → ⊥) → Reads side n f (l ++ m) g
+  pub reads_over : {l : List (Carried Values)} {f g : State} (m : List (Carried Values)) → Reads side n f l g → (g.ended ≡ false → ⊥) → Reads side n f (l ++ m) g
   reads_over {l} {f} {g} m a over = go (first_way l) refl a.found
     where
       go : (o : Option Thread) → first_way l ≡ o → Found n g o → Reads side n f (l ++ m) g
@@ -78,22 +80,22 @@ module _ {side n : ℕ} where
       }
 
 -- The end: its thread gets slot 128, and the leaves are as they were.
-abbrev pub ended_in : State → Slots → State
-ended_in f y = record { list = f.list; slots = y; n = f.n; seen = f.seen; ended = 1 }
+abbrev pub ended_in : State → List Slot → State
+ended_in f y = record { list = f.list; n = f.n; seen = f.seen; ended = true; slots = y }
 
-module _ {f : State} (s : Sound f) {slot m n : ℕ} {y : Slots} (z : Moved slot 128 m n f.slots y) where
+module _ {f : State} (s : Sound f) {slot m n : ℕ} {y : List Slot} (z : Moved slot 128 m n f.slots y) where
   pub end_sound : Sound (ended_in f y)
-  end_sound = record { long = s.long; slots = z.long; size = s.size; marked = s.marked; below = s.below; apart = s.apart }
+  end_sound = record { long = s.long; slots = z.long ∙ s.slots; size = s.size; marked = s.marked; below = s.below; apart = s.apart }
 
   pub reads_end : {side : ℕ} {v u : Values} (l : List (Carried Values)) → side ≤ 1 → Holds f.slots slot v → Marked m n v u → Reads side n f (ends_at n u ∷ l) (ended_in f y)
   reads_end l c a k = record {
     threads = λ w. record { values = w.values; same = w.same; held = λ p t. z.others (λ e. omega (arith, s.below p t)) (w.held p t) };
     found = (refl, refl, z.moved a k);
-    kept = λ e. absurd (omega arith);
+    kept = λ e. absurd (true≢false e);
   }
 
 -- The leaf p, if it is there,
-pub reads_again : {side n : ℕ} {f : State} (p : ℕ) (u : Values) → Sound f → f.ended ≡ 0 → has_bit f.seen p ≡ true → Reads side n f (want p u) f
+pub reads_again : {side n : ℕ} {f : State} (p : ℕ) (u : Values) → Sound f → f.ended ≡ false → has_bit f.seen p ≡ true → Reads side n f (want p u) f
 reads_again {f = f} p u s going b = record {
   threads = λ {ts} w. rw (leaves_same w, sym (s.marked p) ∙ b) w;
   found = going;
@@ -101,10 +103,10 @@ reads_again {f = f} p u s going b = record {
 }
 
 -- and if it is not there.
-abbrev pub grown : State → ℕ → Slots → ℕ → State
-grown f p y seen = record { list = set f.list f.n p; slots = y; n = f.n + 1; seen = seen; ended = 0 }
+abbrev pub grown : State → ℕ → List Slot → ℕ → State
+grown f p y seen = record { list = set f.list f.n p; n = f.n + 1; seen = seen; ended = f.ended; slots = y }
 
-module _ (f : State) (p : ℕ) (s : Sound f) (h : p < 64) (b : has_bit f.seen p ≡ false) where
+module _ (f : State) (p : ℕ) (s : Sound f) (going : f.ended ≡ false) (h : p < 64) (b : has_bit f.seen p ≡ false) where
   new : T (member p (order f)) → ⊥
   new t = true≢false (sym (T_true (member p (order f)) t) ∙ sym (s.marked p) ∙ b)
 
@@ -115,7 +117,7 @@ module _ (f : State) (p : ℕ) (s : Sound f) (h : p < 64) (b : has_bit f.seen p 
       (either (λ i. omega (arith, eqb→eq q p i)) (λ i. s.below q i) (or_cases (eqb q p) (member q (order f)) t))) in
       omega (arith, length_from 0 64, length-take-le f.n f.list (omega (arith, s.size, s.long)), s.size)
 
-  module _ (y : Slots) (seen : ℕ) where
+  module _ (y : List Slot) (seen : ℕ) where
     one_more : order (grown f p y seen) ≡ order f ++ (p ∷ [])
     one_more = rw (add-one f.n) (take-suc-set f.list f.n p (omega (arith, enter_room, s.long)))
 
@@ -125,7 +127,7 @@ module _ (f : State) (p : ℕ) (s : Sound f) (h : p < 64) (b : has_bit f.seen p 
         either y (λ i. x (eqb→eq q p (rw (or_false (eqb q p)) at i)))
         (or_cases (member q (order f)) (member q (p ∷ [])) (rw (one_more, member_append q (order f) (p ∷ [])) at t))
 
-    grown_sound : ((q : ℕ) → has_bit seen q ≡ (has_bit f.seen q || eqb q p)) → Long y → Sound (grown f p y seen)
+    grown_sound : ((q : ℕ) → has_bit seen q ≡ (has_bit f.seen q || eqb q p)) → length y ≡ 129 → Sound (grown f p y seen)
     grown_sound bits long = record {
       long = simp length-set s.long;
       slots = long;
@@ -154,7 +156,7 @@ module _ (f : State) (p : ℕ) (s : Sound f) (h : p < 64) (b : has_bit f.seen p 
 
       pub enter_new : ((q : ℕ) → has_bit seen q ≡ (has_bit f.seen q || eqb q p)) → LeafEntered p m slot side n f (grown f p y seen)
       enter_new bits = record {
-        sound = grown_sound bits z.long;
-        ended = refl;
-        reads = λ a k. record { threads = grown_threads a k; found = refl; kept = λ e o c. z.others (o p h) c };
+        sound = grown_sound bits (z.long ∙ s.slots);
+        ended = going;
+        reads = λ a k. record { threads = grown_threads a k; found = going; kept = λ e o c. z.others (o p h) c };
       }

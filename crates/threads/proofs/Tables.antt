@@ -18,8 +18,10 @@ use Rattle.traces.specs.Code.Pass.{Values, Sets, stamp, mapped, item, items, fir
 use Rattle.traces.specs.Code.Marks.{Shows, carried_by, sets_of, row_sets}
 use Rattle.traces.proofs.Firsts.{items_firsts}
 use Rattle.threads.specs.Ways.{Given}
-use Rattle.threads.specs.Slots.{Slots, Holds, Marked}
-use Rattle.threads.specs.Reads.{State, Outside, Reads}
+use Rattle.threads.specs.declared.Slot.{Slot}
+use Rattle.threads.specs.declared.State.{State}
+use Rattle.threads.specs.Slots.{Holds, Marked}
+use Rattle.threads.specs.Reads.{Outside, Reads}
 use Rattle.threads.specs.Steps.{outcome_of, outcomes_of, row_of, Sources, RowRead}
 use Rattle.threads.proofs.Leaves.{row_below}
 
@@ -72,7 +74,7 @@ module _ {r : Re} {masks rows lens marks : List ℕ} (d : Given r masks rows len
   small zero t = omega arith
   small (suc q) t = omega (arith, row_below r d.numbered k q (rw (d.listed k here, sym (items_firsts (row_sets k r))) at t), d.most)
 
-  sources : {from side n : ℕ} {x : Slots} {v : Values} → Outside side from → Holds x from v → Sources rows lens marks k from side n x (λ q. stamp n v (sets_of q (row_sets k r)))
+  sources : {from side n : ℕ} {x : List Slot} {v : Values} → Outside side from → Holds x from v → Sources rows lens marks k from side n x (λ q. stamp n v (sets_of q (row_sets k r)))
   sources {n = n} {v = v} o h = record {
     outside = o;
     values = v;

@@ -1,6 +1,7 @@
 -- The rows and the bytes: which outcomes are read.
 -- Assumes nothing.
 use Rattle.std.specs.Prelude.{◌≡◌, ℕ, zero, suc, ◌+◌, ◌-◌, ◌*◌, ◌≤◌, ◌<◌, List, [], ◌∷◌, get_or, take, drop, T}
+use Rattle.std.specs.Prelude as Std
 use Rattle.std.proofs.Math.Option.{Option}
 use Rattle.theory.specs.Pattern.{Re, count, has}
 use Rattle.theory.specs.Outcomes.{when}
@@ -8,10 +9,11 @@ use Rattle.theory.specs.Standing.{member}
 use Rattle.words.specs.Sets.{has_bit}
 use Rattle.traces.specs.Traces.{Carried, ends_at, wants}
 use Rattle.traces.specs.Code.Pass.{Values, Thread, row, stamped, moved, pass}
-use Rattle.threads.specs.declared.Best.{Best}
+use Rattle.threads.specs.declared.Slot.{Slot}
+use Rattle.threads.specs.declared.State.{State}
 use Rattle.threads.specs.Ways.{Given}
-use Rattle.threads.specs.Slots.{Slots, Holds, Marked, IsBest}
-use Rattle.threads.specs.Reads.{State, order, Sound, blank, AreThreads, Outside, Reads}
+use Rattle.threads.specs.Slots.{Holds, Marked, IsBest}
+use Rattle.threads.specs.Reads.{order, Sound, blank, AreThreads, Outside, Reads}
 
 -- The outcomes of the numbers l, where u has their values: 0 is the end, and p + 1 the leaf p.
 abbrev pub outcome_of : ℕ → (ℕ → Values) → ℕ → Carried Values
@@ -27,7 +29,7 @@ abbrev pub row_of : List ℕ → List ℕ → ℕ → List ℕ
 row_of rows lens k = take (get_or lens k 0) (drop (65 * k) rows)
 
 -- u has their values: what slot `from` holds, which is none of the side's, with n for each value of their masks.
-pub record Sources (rows lens marks : List ℕ) (k from side n : ℕ) (x : Slots) (u : ℕ → Values) : Type 0 where
+pub record Sources (rows lens marks : List ℕ) (k from side n : ℕ) (x : List Slot) (u : ℕ → Values) : Type 0 where
   pub outside : Outside side from
   pub values : Values
   pub holds : Holds x from values
@@ -63,6 +65,6 @@ pub record Stepped (rows lens marks : List ℕ) (mask side n : ℕ) (f g : State
       → Reads side n (blank f.list f.slots) (moved r b n ts) g
 
 -- The line w is passed over from the place i on: the best way is then that of the pass.
-pub record Passed (masks rows lens marks w : List ℕ) (i : ℕ) (f : State) (b : Best) (y : Slots) (c : Best) : Type 0 where
+pub record Passed (masks rows lens marks w : List ℕ) (i : ℕ) (f : State) (b : Std.Option ℕ) (y : List Slot) (c : Std.Option ℕ) : Type 0 where
   pub passed : {r : Re} → Given r masks rows lens marks → ((k : ℕ) → get_or w k 0 < 256) → Leaves r (order f) → {ts : List Thread} → AreThreads 0 f.slots (order f) ts
       → (way : Option Thread) → IsBest f.slots b way → IsBest y c (pass r (drop i w) ts i way)

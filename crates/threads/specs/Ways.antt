@@ -1,6 +1,7 @@
 -- The way that the code hands over: where it ends, and where it last opened and closed each of the eight fields.
 -- Assumes nothing.
-use Rattle.std.specs.Prelude.{◌≡◌, ℕ, suc, ◌+◌, ◌*◌, ◌-◌, ◌≤◌, ◌<◌, cond, List, get_or, take, drop, ltb}
+use Rattle.std.specs.Prelude.{◌≡◌, ℕ, suc, ◌+◌, ◌*◌, ◌-◌, ◌≤◌, ◌<◌, cond, List, get_or, take, drop, ltb, None, Some}
+use Rattle.std.specs.Prelude as Std
 use Rattle.std.proofs.Math.Option.{Option, none, some}
 use Rattle.theory.specs.Pattern.{Re, count, has, Numbered}
 use Rattle.theory.specs.Standing.{once}
@@ -21,15 +22,17 @@ pub record Given (r : Re) (masks rows lens marks : List ℕ) : Type 0 where
 abbrev pub value_at : Values → ℕ → Option ℕ
 value_at v j = cond (ltb j 8) (v.starts (suc j)) (v.ends (suc (j - 8)))
 
--- They stand from the place `at` on, each if its bit in `known` is set.
-abbrev pub HoldsValues : List ℕ → ℕ → ℕ → Values → Type 0
-HoldsValues places at known v = (j : ℕ) → j < 16 → value_at v j ≡ cond (has_bit known j) (some (get_or places (at + j) 0)) none
+-- They are the places, each if its bit in `known` is set.
+abbrev pub HoldsValues : List ℕ → ℕ → Values → Type 0
+HoldsValues places known v = (j : ℕ) → j < 16 → value_at v j ≡ cond (has_bit known j) (some (get_or places j 0)) none
 
 -- The thread that a `Way` of the code is.
-abbrev pub IsWay : Way → Option Thread → Type 0
-IsWay x none = x.some ≡ 0
-IsWay x (some t) = (x.some ≡ 1) × (x.end ≡ t.0) × HoldsValues x.places 0 x.known t.1
+abbrev pub IsWay : Std.Option Way → Option Thread → Type 0
+IsWay None none = Unit {0}
+IsWay None (some t) = ⊥
+IsWay (Some x) none = ⊥
+IsWay (Some x) (some t) = (x.end ≡ t.0) × HoldsValues x.places x.known t.1
 
 -- The pass over the line w from the start i.
-pub record Led (masks rows lens marks w : List ℕ) (i : ℕ) (x : Way) : Type 0 where
+pub record Led (masks rows lens marks w : List ℕ) (i : ℕ) (x : Std.Option Way) : Type 0 where
   pub led : {r : Re} → Given r masks rows lens marks → ((k : ℕ) → get_or w k 0 < 256) → IsWay x (pass_from r w i)

@@ -1,25 +1,20 @@
 -- Copies of a part of what an array holds.
 -- Assumes nothing.
 use mathlib.Core.Path.{◌≡◌, refl, sym, ap, ◌∙◌, subst}
-use Prim.Native.Nat.{ℕ, ◌+◌, ◌-◌, ◌≤◌, ◌<◌, min}
-use mathlib.Core.Bool.{Bool, true, false, not}
-use mathlib.Core.List.{List, [], ◌∷◌, ◌++◌, append_assoc, append-nil}
+use Prim.Native.Nat.{ℕ, ◌+◌, ◌-◌, ◌≤◌, ◌<◌}
+use mathlib.Core.List.{List, [], ◌∷◌, ◌++◌, append_assoc}
 use native.Mathlib.Omega.{arith}
 use native.Mathlib.Numerals.{add-one}
-use lib.Dec.{T, leb, leb→le, nleb→lt}
 use lib.ListN.{length, take, get_or, length-append, get_or-append}
-use lib.Seq.{take_all, take-suc, get_or-take, get_or-append-add}
+use lib.Seq.{take-suc, get_or-take, get_or-append-add}
 use Rattle.grammar.specs.Code.Tokens.{blocks}
 use Rattle.tokens.specs.Held.{HoldsCodes, Added, Rewritten}
 use Rattle.tokens.specs.Copied.{Copied, again, nested}
 use Rattle.tokens.proofs.Blocks.{again_more, must_first}
-use Rattle.tokens.proofs.Laws.{lost, full}
+use Rattle.tokens.proofs.Laws.{full}
 
 pub copy_full : (a : List ℕ) (n from size : ℕ) → 2815 ≤ n → Copied a n from size (λ k. k) a n
 copy_full a n from size h = record { room = λ r. r; more = omega arith; holds = λ l k z g x y. (full a n k h).holds (l ++ (k ++ z)) g }
-
-pub copy_none : (a : List ℕ) (n from size : ℕ) → Copied a n from size (take 0) a n
-copy_none a n from size = record { room = λ r. r; more = omega arith; holds = λ l k z g x y. rw append-nil g }
 
 three : (l k z : List ℕ) → length (l ++ (k ++ z)) ≡ length l + (length k + length z)
 three l k z = length-append l (k ++ z) ∙ ap (λ n. length l + n) (length-append k z)
@@ -50,23 +45,6 @@ copy_more {b = b} {m = m} from size i h w d =
           let v : take (i + 1) k ≡ take i k ++ (get_or b (from + i) 0 ∷ []) = rw (add-one i, take-suc k i 0 u, e) refl in
           rw (v, ← append_assoc (l ++ (k ++ z)) (take i k) (get_or b (from + i) 0 ∷ [])) (d.holds ((l ++ (k ++ z)) ++ take i k) s);
     }
-
--- The first `size` codes of a block are all of it, or what is lacking has no room.
-pub copy_all : {a b : List ℕ} {n m : ℕ} (from size i : ℕ) → size ≤ i → Copied a n from size (take i) b m → Copied a n from size (λ k. k) b m
-copy_all {b = b} {m = m} from size i h w =
-    record {
-      room = w.room;
-      more = w.more;
-      holds = λ l k z g x y.
-          go l k z x y (w.holds l k z g x y) (leb (length l + length k) 2815) (leb→le (length l + length k) 2815) (nleb→lt (length l + length k) 2815);
-    }
-  where
-    go : (l k z : List ℕ) → from ≡ min 2815 (length l) → from + size ≡ min 2815 (length l + length k) → HoldsCodes b m ((l ++ (k ++ z)) ++ take i k) → (c : Bool) → (T c → length l + length k ≤ 2815) → (T (not c) → 2815 < length l + length k) → HoldsCodes b m ((l ++ (k ++ z)) ++ k)
-    go l k z x y s true p q = let r = p tt in rw (take_all i k (omega arith)) at s
-    go l k z x y s false p q = let r = q tt in let o = three l k z in lost (l ++ (k ++ z)) (take i k) k (omega arith) s
-
-pub copies_none : (a : List ℕ) (n from : ℕ) → Rewritten a n from (again 0) a n
-copies_none a n from = record { room = λ r. r; more = λ r. r; holds = λ l k g e. rw (append-nil k) g }
 
 pub copies_more : {a b c : List ℕ} {n m p : ℕ} (from i : ℕ) → from ≤ n → Rewritten a n from (again i) b m → Copied b m from (n - from) (λ k. k) c p → Rewritten a n from (again (i + 1)) c p
 copies_more from i h w d =

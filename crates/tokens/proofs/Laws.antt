@@ -45,9 +45,6 @@ full a n k h =
       holds = λ l g. lost l [] k (omega (arith, g.used)) (rw append-nil g);
     }
 
-pub added_none : (a : List ℕ) (n : ℕ) → Added a n [] a n
-added_none a n = record { room = λ r. r; more = omega arith; holds = λ l g. rw append-nil g }
-
 pub added_more : {a b c : List ℕ} {n m p : ℕ} {y z : List ℕ} → Added a n y b m → Added b m z c p → Added a n (y ++ z) c p
 added_more {y = y} {z = z} f g =
     record {
@@ -67,13 +64,6 @@ outside a n from f h =
       more = λ r. absurd (omega arith);
       holds = λ l k g e. absurd (omega (arith, g.used, length-append l k));
     }
-
--- No codes use more places than there are.
-pub beyond : (a : List ℕ) (n from : ℕ) (f : List ℕ → List ℕ) → 2815 < n → Rewritten a n from f a n
-beyond a n from f h = record { room = λ r. absurd (omega arith); more = λ r. r; holds = λ l k g e. absurd (omega (arith, g.used)) }
-
-pub kept : (a : List ℕ) (n from : ℕ) → Rewritten a n from (λ k. k) a n
-kept a n from = record { room = λ r. r; more = λ r. r; holds = λ l k g e. g }
 
 pub then_added : {a b c : List ℕ} {n m p from : ℕ} {f : List ℕ → List ℕ} {z : List ℕ} → Rewritten a n from f b m → Added b m z c p → Rewritten a n from (λ k. f k ++ z) c p
 then_added {f = f} {z = z} w g =

@@ -24,9 +24,6 @@ pub record Raised (a : List ℕ) (from i : ℕ) (b : List ℕ) (x : ℕ) : Type 
   pub next : x ≡ raised a from i
   pub rest : (j : ℕ) → i ≤ j → get_or b j 0 ≡ get_or a j 0
 
-pub raised_none : (a : List ℕ) (from : ℕ) → Raised a from from a 0
-raised_none a from = record { size = refl; done = λ z j h. rw (lt-ltb j from h); next = rw (le-ltb from from (omega arith), eq-eqb from from refl); rest = λ j h. refl }
-
 pub raised_more : {a b : List ℕ} {from i x : ℕ} → from ≤ i → i < 2815 → Raised a from i b x → Raised a from (i + 1) (set b i x) (get_or b i 0)
 raised_more {a} {b} {from} {i} {x} h l r =
     let e : i + 1 - 1 ≡ i = omega arith in

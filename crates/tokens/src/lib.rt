@@ -21,109 +21,89 @@ pub const STAR: u16 = Pattern::STAR as u16;
 pub const LAZY_STAR: u16 = Pattern::LAZY_STAR as u16;
 
 // One more code.
-pub fn push(a: &mut Codes, len: usize, code: u16) -> usize
-    ensures added { Added a.old len (code ∷ []) a.new result }
+pub fn push(a: &mut Codes, code: u16)
+    ensures added { Added a.old.items a.old.len (code ∷ []) a.new.items a.new.len }
 {
-    if len < Pattern::MAX_PARTS {
-        a[len] = code;
-        return len + 1;
+    if a.len < Pattern::MAX_PARTS {
+        a.items[a.len] = code;
+        a.len += 1;
     }
-    len
 }
 
 // One code n times.
-fn pushes(a: &mut Codes, len: usize, code: u16, n: usize) -> usize
-    ensures added { Added a.old len (replicate n code) a.new result }
+fn pushes(a: &mut Codes, code: u16, n: usize)
+    ensures added { Added a.old.items a.old.len (replicate n code) a.new.items a.new.len }
 {
-    let mut end = len;
-    let mut i = 0;
-    while i < n {
-        end = push(a, end, code);
-        i += 1;
+    for _ in 0..n {
+        push(a, code);
     }
-    end
 }
 
-// What ends an optional copy: the choice between it and the empty sequence, which a lazy repeat has in front of it already.
-fn shut(a: &mut Codes, len: usize, lazy: bool) -> usize
-    ensures added { Added a.old len (shut_codes (manner lazy)) a.new result }
+// What ends an optional copy: the choice between it and the empty sequence, which a lazy repeat has in front of it already. Lazy is a flag as it is read, by the sign
+// after the repeat: it adds or leaves out one code, here and in what calls this.
+fn shut(a: &mut Codes, lazy: bool)
+    ensures added { Added a.old.items a.old.len (shut_codes (manner lazy)) a.new.items a.new.len }
 {
-    if lazy {
-        return push(a, len, ALTERNATION);
+    if !lazy {
+        push(a, EMPTY);
     }
-    let none = push(a, len, EMPTY);
-    push(a, none, ALTERNATION)
+    push(a, ALTERNATION);
 }
 
 // The ends of n optional copies, from the inside out: the copy in sequence with what is inside it, and its end.
-fn closes(a: &mut Codes, len: usize, n: usize, lazy: bool) -> usize
-    ensures added { Added a.old len (close_codes (manner lazy) n) a.new result }
+fn closes(a: &mut Codes, n: usize, lazy: bool)
+    ensures added { Added a.old.items a.old.len (close_codes (manner lazy) n) a.new.items a.new.len }
 {
-    let mut end = len;
-    let mut i = 0;
-    while i < n {
-        end = push(a, end, SEQUENCE);
-        end = shut(a, end, lazy);
-        i += 1;
+    for _ in 0..n {
+        push(a, SEQUENCE);
+        shut(a, lazy);
     }
-    end
 }
 
 // The empty sequence in front of the part: each of its codes goes one place up.
-fn lead(a: &mut Codes, len: usize, from: usize) -> usize
-    ensures written { Rewritten a.old len from (λ k. empty_kind ∷ k) a.new result }
+fn lead(a: &mut Codes, from: usize)
+    ensures written { Rewritten a.old.items a.old.len from (λ k. empty_kind ∷ k) a.new.items a.new.len }
 {
-    if len < from {
-        return len;
+    if a.len < from {
+        return;
     }
-    if Pattern::MAX_PARTS < len {
-        return len;
+    if Pattern::MAX_PARTS < a.len {
+        return;
     }
     let mut carried = EMPTY;
-    let mut i = from;
-    while i < len {
-        let code = a[i];
-        a[i] = carried;
+    for i in from..a.len {
+        let code = a.items[i];
+        a.items[i] = carried;
         carried = code;
-        i += 1;
     }
-    push(a, len, carried)
+    push(a, carried);
 }
 
-// The `size` codes from `from` on, once more. A full array takes none, so that many copies cost no more than fit.
-fn copy(a: &mut Codes, len: usize, from: usize, size: usize) -> usize
-    requires { from + size ≤ len }
-    ensures copied { Copied a.old len from size (λ k. k) a.new result }
+// The `size` codes from `from` on, once more. A full array takes none, so that many copies cost no more than fit. Code by code, since those past the last place are lost.
+fn copy(a: &mut Codes, from: usize, size: usize)
+    requires { from + size ≤ a.old.len }
+    ensures copied { Copied a.old.items a.old.len from size (λ k. k) a.new.items a.new.len }
 {
-    if Pattern::MAX_PARTS <= len {
-        return len;
+    if Pattern::MAX_PARTS <= a.len {
+        return;
     }
-    let mut end = len;
-    let mut i = 0;
-    while i < size {
-        let at = from + i;
-        let code = a[at];
-        end = push(a, end, code);
-        i += 1;
+    for i in 0..size {
+        let code = a.items[from + i];
+        push(a, code);
     }
-    end
 }
 
 // The part from `from` on, n times more.
-fn copies(a: &mut Codes, len: usize, from: usize, n: usize) -> usize
-    ensures written { (len ≤ result) × Rewritten a.old len from (again n) a.new result }
+fn copies(a: &mut Codes, from: usize, n: usize)
+    ensures written { (a.old.len ≤ a.new.len) × Rewritten a.old.items a.old.len from (again n) a.new.items a.new.len }
 {
-    if len < from {
-        return len;
+    if a.len < from {
+        return;
     }
-    let size = len - from;
-    let mut end = len;
-    let mut i = 0;
-    while i < n {
-        end = copy(a, end, from, size);
-        i += 1;
+    let size = a.len - from;
+    for _ in 0..n {
+        copy(a, from, size);
     }
-    end
 }
 
 // The code of a star.
@@ -133,88 +113,82 @@ fn star_code(lazy: bool) -> u16
     if lazy { LAZY_STAR } else { STAR }
 }
 
-// `*`: the star of the part.
-pub fn star(a: &mut Codes, len: usize, from: usize, lazy: bool) -> usize
-    ensures written { Rewritten a.old len from (λ k. k ++ (star_of (manner lazy) ∷ [])) a.new result }
+// `*`: the star of the part that begins at `from`.
+pub fn star(a: &mut Codes, from: usize, lazy: bool)
+    ensures written { Rewritten a.old.items a.old.len from (λ k. k ++ (star_of (manner lazy) ∷ [])) a.new.items a.new.len }
 {
-    push(a, len, star_code(lazy))
+    push(a, star_code(lazy));
 }
 
 // `{times}`: the copies, then the sequences that join them. No copy is the empty sequence, and the part is cut off.
-pub fn exactly(a: &mut Codes, len: usize, from: usize, times: usize) -> usize
-    ensures written { Rewritten a.old len from (exactly_codes times) a.new result }
+pub fn exactly(a: &mut Codes, from: usize, times: usize)
+    ensures written { Rewritten a.old.items a.old.len from (exactly_codes times) a.new.items a.new.len }
 {
     if times == 0 {
-        if len < from {
-            return len;
+        if a.len < from {
+            return;
         }
-        return push(a, from, EMPTY);
+        a.len = from;
+        push(a, EMPTY);
+        return;
     }
     let joins = times - 1;
-    let end = copies(a, len, from, joins);
-    pushes(a, end, SEQUENCE, joins)
+    copies(a, from, joins);
+    pushes(a, SEQUENCE, joins);
 }
 
 // `{times,}`: the copies, then the star of one more.
-pub fn at_least(a: &mut Codes, len: usize, from: usize, times: usize, lazy: bool) -> usize
-    ensures written { Rewritten a.old len from (at_least_codes (manner lazy) times) a.new result }
+pub fn at_least(a: &mut Codes, from: usize, times: usize, lazy: bool)
+    ensures written { Rewritten a.old.items a.old.len from (at_least_codes (manner lazy) times) a.new.items a.new.len }
 {
-    let copied = copies(a, len, from, times);
-    let starred = push(a, copied, star_code(lazy));
-    pushes(a, starred, SEQUENCE, times)
+    copies(a, from, times);
+    let starred = star_code(lazy);
+    push(a, starred);
+    pushes(a, SEQUENCE, times);
 }
 
 // The copies of a lazy repeat: `least` of them, then `around` and one with the empty sequence in front. The first of these is the part itself if none must be.
-fn led_copies(a: &mut Codes, len: usize, from: usize, least: usize, around: usize) -> usize
-    ensures written { Rewritten a.old len from (nested (empty_kind ∷ []) least around) a.new result }
+fn led_copies(a: &mut Codes, from: usize, least: usize, around: usize)
+    ensures written { Rewritten a.old.items a.old.len from (nested (empty_kind ∷ []) least around) a.new.items a.new.len }
 {
-    if len < from {
-        return len;
+    if a.len < from {
+        return;
     }
+    let size = a.len - from;
     if least == 0 {
-        let led = lead(a, len, from);
-        return copies(a, led, from, around);
+        lead(a, from);
+        copies(a, from, around);
+        return;
     }
-    let copied = copies(a, len, from, least - 1);
-    let none = push(a, copied, EMPTY);
-    let end = copy(a, none, from, len - from);
-    copies(a, end, copied, around)
+    copies(a, from, least - 1);
+    let last = a.len;
+    push(a, EMPTY);
+    copy(a, from, size);
+    copies(a, last, around);
 }
 
 // The copies that must be, and the optional ones, `around` and one.
-fn all_copies(
-    a: &mut Codes,
-    len: usize,
-    from: usize,
-    least: usize,
-    most: usize,
-    lazy: bool,
-) -> usize
+fn all_copies(a: &mut Codes, from: usize, least: usize, most: usize, lazy: bool)
     requires { least < most }
-    ensures written { Rewritten a.old len from (nested (lead_codes (manner lazy)) least (most - least - 1)) a.new result }
+    ensures written { Rewritten a.old.items a.old.len from (nested (lead_codes (manner lazy)) least (most - least - 1)) a.new.items a.new.len }
 {
     if lazy {
-        return led_copies(a, len, from, least, most - least - 1);
+        led_copies(a, from, least, most - least - 1);
+        return;
     }
-    copies(a, len, from, most - 1)
+    copies(a, from, most - 1);
 }
 
 // `{least,most}`: the copies that must be, then the optional ones, each inside the one before.
-pub fn between(
-    a: &mut Codes,
-    len: usize,
-    from: usize,
-    least: usize,
-    most: usize,
-    lazy: bool,
-) -> usize
-    ensures written { Rewritten a.old len from (between_codes (manner lazy) least (most - least)) a.new result }
+pub fn between(a: &mut Codes, from: usize, least: usize, most: usize, lazy: bool)
+    ensures written { Rewritten a.old.items a.old.len from (between_codes (manner lazy) least (most - least)) a.new.items a.new.len }
 {
     if most <= least {
-        return exactly(a, len, from, least);
+        exactly(a, from, least);
+        return;
     }
-    let copied = all_copies(a, len, from, least, most, lazy);
-    let inner = shut(a, copied, lazy);
-    let closed = closes(a, inner, most - least - 1, lazy);
-    pushes(a, closed, SEQUENCE, least)
+    all_copies(a, from, least, most, lazy);
+    shut(a, lazy);
+    closes(a, most - least - 1, lazy);
+    pushes(a, SEQUENCE, least);
 }

@@ -31,7 +31,7 @@ pub record Parted (x p rest : ℕ) : Type 0 where
   pub others : (q : ℕ) → has_bit rest q ≡ (has_bit x q && not (eqb q p))
   pub less : rest < x
 
--- The least leaf of x and the others are taken apart, and so x is, if it is not empty.
+-- The least leaf of x and the others, into which x is parted.
 pub record TakenFrom (x : ℕ) (r : Taken) : Type 0 where
   pub is : r ≡ record { leaf = least_leaf x; rest = other_leaves x }
-  pub parted : 0 < x → Parted x r.leaf r.rest
+  pub parted : Parted x r.leaf r.rest

@@ -1,18 +1,22 @@
 // The library for other languages: how long a match of a pattern can be, how many bytes its records have, its tables, both spans of a line by them, the fields of its greedy span,
 // its byte groups, and the checker. A call whose name ends in `_with_sets` takes a table of named sets of any length and content, which is checked first (request 9); without that
 // ending it is the same with the fixed table. No function keeps a state, allocates or fails: a pattern that is no pattern is refused.
+// Names, parameters and structs of numbers are those that callers in C have: so each call has two forms, and tables, buffers and numbers come one by one.
 #![tactic(auto)]
 
-ghost use Rattle.std.specs.Prelude.{◌≡◌, cond};
+ghost use Rattle.std.specs.Prelude.{◌≡◌};
 ghost use Rattle.grammar.specs.Sets.{set_table};
-ghost use Rattle.matchers.specs.Tables.{tables};
+ghost use Rattle.matchers.specs.Tables.{tables, tables_of};
 ghost use Rattle.fields.specs.Cuts.{lent};
-ghost use Rattle.yindorka.specs.Calls.{refusal_of, answer_of, ChecksSets, counted_of, Measures, Sizes, Prepares, Cuts, PreparesFields, CutsFields, ShowsGroups, RewritesLine, Decided, outcome_of, Told};
+ghost use Rattle.readings.specs.Tables.{tables_in};
+ghost use Rattle.yindorka.specs.Calls.{accepted, counted, refusal_of, counted_refusal, sizes_of, ChecksSets, Measures, Sizes, Prepares, Cuts, PreparesFields, CutsFields, ShowsGroups, RewritesLine, Decided, outcome_of, looking_of, Told};
 
-use checker::Verdict;
-use matchers::Spans;
-use reader::Answer;
-use sets::Checked;
+use checker::{Report, Verdict};
+use facts::FactsView;
+use follow::TablesView;
+use matchers::View;
+use reader::refusal::Refusal as Refused;
+use readings::Tables;
 
 // Number 0 for an accepted pattern, else paper 01's number and place.
 #[repr(C)]
@@ -72,45 +76,148 @@ pub struct Looking {
     pub comparisons: usize,
 }
 
-fn refusal_of(x: Answer) -> Refusal
-    ensures { result ≡ refusal_of x }
+// The number of an accepted pattern. C has numbers in place of enums.
+const ACCEPTED: usize = 0;
+
+fn accepted() -> Refusal
+    ensures { result ≡ accepted }
 {
-    match x {
-        Answer::Accepted => Refusal {
-            number: 0,
-            place: 0,
-        },
-        Answer::Refused { number, place } => Refusal {
-            number: number as usize,
-            place: place,
-        },
+    Refusal {
+        number: ACCEPTED,
+        place: 0,
     }
 }
 
-fn counted_of(x: Answer, count: usize) -> Counted
-    ensures { result ≡ counted_of x count }
+fn count_of(count: usize) -> Counted
+    ensures { result ≡ counted count }
 {
-    let refusal = refusal_of(x);
     Counted {
-        number: refusal.number,
-        place: refusal.place,
+        number: ACCEPTED,
+        place: 0,
         count,
     }
 }
 
-fn flag(is: bool) -> usize
-    ensures { result ≡ cond is 1 0 }
-{
-    if is { 1 } else { 0 }
+impl From<Refused> for Refusal {
+    ghost from_gives = { λ e r. r ≡ refusal_of e };
+
+    fn from(e: Refused) -> Refusal {
+        Refusal {
+            number: usize::from(e.fault.number()),
+            place: e.place,
+        }
+    }
 }
 
-// A table that fails is 14.
-fn answer_of(x: Checked) -> Answer
-    ensures { result ≡ answer_of x }
+impl From<Refused> for Counted {
+    ghost from_gives = { λ e r. r ≡ counted_refusal e };
+
+    fn from(e: Refused) -> Counted {
+        let refusal = Refusal::from(e);
+        Counted {
+            number: refusal.number,
+            place: refusal.place,
+            count: 0,
+        }
+    }
+}
+
+impl From<lengths::Lengths> for Lengths {
+    ghost from_gives = { λ x r. r ≡ sizes_of x };
+
+    fn from(x: lengths::Lengths) -> Lengths {
+        Lengths {
+            number: ACCEPTED,
+            place: 0,
+            least: x.least,
+            limited: usize::from(x.greatest.is_some()),
+            greatest: x.greatest.unwrap_or(0),
+        }
+    }
+}
+
+impl From<Result<Verdict, Refused>> for Outcome {
+    ghost from_gives = { λ x r. r ≡ outcome_of x };
+
+    fn from(x: Result<Verdict, Refused>) -> Outcome {
+        match x {
+            Ok(Verdict::Alike { count }) => Outcome {
+                kind: 0,
+                first: count,
+                second: 0,
+            },
+            Ok(Verdict::Unlike { count, length }) => Outcome {
+                kind: 1,
+                first: count,
+                second: length,
+            },
+            Err(e) => Outcome {
+                kind: 2,
+                first: usize::from(e.fault.number()),
+                second: e.place,
+            },
+        }
+    }
+}
+
+impl From<Report> for Looking {
+    ghost from_gives = { λ x r. r ≡ looking_of x };
+
+    fn from(x: Report) -> Looking {
+        let outcome = Outcome::from(x.verdict);
+        Looking {
+            kind: outcome.kind,
+            first: outcome.first,
+            second: outcome.second,
+            looks: x.looking.looks,
+            comparisons: x.looking.comparisons,
+        }
+    }
+}
+
+// Copies a pattern's tables to a caller's arrays.
+fn hand_out(
+    own: &Tables,
+    masks: &mut [u64; 256],
+    rows: &mut [u8; 4225],
+    lens: &mut [u8; 65],
+    sets: &mut [u64; 65],
+    ends: &mut [u8; 65],
+    next: &mut [u64; 257],
+    hows: &mut [u8; 10],
+)
+    ensures { tables masks.new rows.new lens.new sets.new ends.new next.new hows.new ≡ tables_in own.now }
 {
-    match x {
-        Checked::Usable => Answer::Accepted,
-        Checked::Faulty { place } => Answer::Refused { number: 14, place },
+    *masks = own.masks;
+    *rows = own.follow.rows;
+    *lens = own.follow.lens;
+    *sets = own.follow.sets;
+    *ends = own.follow.ends;
+    *next = own.facts.next;
+    *hows = own.facts.hows;
+}
+
+// The tables that a caller lends, as they are cut by.
+fn view_of<'a>(
+    masks: &'a [u64; 256],
+    rows: &'a [u8; 4225],
+    lens: &'a [u8; 65],
+    sets: &'a [u64; 65],
+    ends: &'a [u8; 65],
+    next: &'a [u64; 257],
+    hows: &'a [u8; 10],
+) -> View<'a>
+    ensures { tables_of result ≡ tables masks.now rows.now lens.now sets.now ends.now next.now hows.now }
+{
+    View {
+        tables: TablesView {
+            masks,
+            rows,
+            lens,
+            sets,
+            ends,
+        },
+        facts: FactsView { next, hows },
     }
 }
 
@@ -127,7 +234,10 @@ pub extern "C" fn yindorka_fixed_sets(table: &mut [u8; 256])
 pub extern "C" fn yindorka_check_sets(loaded: &[u8]) -> Refusal
     ensures checked { ChecksSets loaded.now result }
 {
-    refusal_of(answer_of(sets::check(loaded)))
+    let Err(faulty) = sets::check(loaded) else {
+        return accepted();
+    };
+    Refusal::from(Refused::from(faulty))
 }
 
 // How long a match of a pattern can be, each leaf counted as 1 whatever its set.
@@ -135,26 +245,18 @@ pub extern "C" fn yindorka_check_sets(loaded: &[u8]) -> Refusal
 pub extern "C" fn yindorka_lengths_with_sets(loaded: &[u8], pattern: &[u8]) -> Lengths
     ensures measured { Measures loaded.now pattern.now result }
 {
-    let reading = reader::read(loaded, pattern);
-    let answer = reading.answer;
-    let own = reading.lengths;
-    let greatest = own.greatest;
-    let refusal = refusal_of(answer);
-    let Answer::Accepted = answer else {
-        return Lengths {
-            number: refusal.number,
-            place: refusal.place,
-            least: 0,
-            limited: 0,
-            greatest: 0,
-        };
-    };
-    Lengths {
-        number: refusal.number,
-        place: refusal.place,
-        least: own.least,
-        limited: flag(lengths::is_limited(greatest)),
-        greatest: lengths::bytes_of(greatest),
+    match reader::read(loaded, pattern) {
+        Ok(reading) => Lengths::from(reading.lengths),
+        Err(e) => {
+            let refusal = Refusal::from(e);
+            Lengths {
+                number: refusal.number,
+                place: refusal.place,
+                least: 0,
+                limited: 0,
+                greatest: 0,
+            }
+        }
     }
 }
 
@@ -172,13 +274,10 @@ pub extern "C" fn yindorka_lengths(pattern: &[u8]) -> Lengths
 pub extern "C" fn yindorka_record_bytes_with_sets(loaded: &[u8], pattern: &[u8]) -> Counted
     ensures sized { Sizes loaded.now pattern.now result }
 {
-    let reading = reader::read(loaded, pattern);
-    let answer = reading.answer;
-    let leaves = reading.pattern.leaves;
-    let Answer::Accepted = answer else {
-        return counted_of(answer, 0);
-    };
-    counted_of(answer, records::width(leaves))
+    match reader::read(loaded, pattern) {
+        Ok(reading) => count_of(records::width(reading.pattern.leaves)),
+        Err(e) => Counted::from(e),
+    }
 }
 
 // How many bytes a record of a pattern has, with the fixed table.
@@ -207,7 +306,13 @@ pub extern "C" fn yindorka_prepare_with_sets(
         (tables masks.old rows.old lens.old sets.old ends.old next.old hows.old) result
         (tables masks.new rows.new lens.new sets.new ends.new next.new hows.new) }
 {
-    refusal_of(readings::prepare(loaded, pattern, masks, rows, lens, sets, ends, next, hows))
+    match readings::prepare(loaded, pattern) {
+        Ok(own) => {
+            hand_out(&own, masks, rows, lens, sets, ends, next, hows);
+            accepted()
+        }
+        Err(e) => Refusal::from(e),
+    }
 }
 
 // Reads a pattern and fills its tables, with the fixed table of named sets.
@@ -246,16 +351,11 @@ pub extern "C" fn yindorka_cut<'a>(
     ensures cuts { Cuts (tables masks.now rows.now lens.now sets.now ends.now next.now hows.now)
         line.now spans.old result spans.new }
 {
-    let both = matchers::cut(line, masks, rows, lens, sets, ends, next, hows);
-    let Spans::Located {
-        start,
-        greedy,
-        posix,
-    } = both
-    else {
+    let view = view_of(masks, rows, lens, sets, ends, next, hows);
+    let Some(both) = matchers::cut(line, view) else {
         return 0;
     };
-    *spans = [start, greedy, posix];
+    *spans = [both.start, both.greedy, both.posix];
     1
 }
 
@@ -277,11 +377,14 @@ pub extern "C" fn yindorka_prepare_fields_with_sets(
         (lent (tables masks.old rows.old lens.old sets.old ends.old next.old hows.old) marks.old) result
         (lent (tables masks.new rows.new lens.new sets.new ends.new next.new hows.new) marks.new) }
 {
-    let ready = fields::prepare(
-        loaded, pattern, masks, rows, lens, sets, ends, next, hows, marks,
-    );
-    let answer = ready.answer;
-    counted_of(answer, ready.count)
+    match fields::prepare(loaded, pattern) {
+        Ok(ready) => {
+            hand_out(&ready.tables, masks, rows, lens, sets, ends, next, hows);
+            *marks = ready.marks;
+            count_of(ready.count)
+        }
+        Err(e) => Counted::from(e),
+    }
 }
 
 // The same with the masks of its fields.
@@ -324,22 +427,22 @@ pub extern "C" fn yindorka_cut_fields<'a>(
     ensures cuts { CutsFields (lent (tables masks.now rows.now lens.now sets.now ends.now next.now hows.now) marks.now)
         line.now places.old result places.new }
 {
-    let x = fields::cut(line, masks, rows, lens, sets, ends, next, hows, marks);
-    if x.found != 1 {
+    let view = view_of(masks, rows, lens, sets, ends, next, hows);
+    let Some(x) = fields::cut(line, view, marks) else {
         return Spanned {
             found: 0,
             start: 0,
             end: 0,
             known: 0,
         };
-    }
+    };
     let own = x.places;
     *places = own;
     Spanned {
         found: 1,
         start: x.start,
         end: x.end,
-        known: words::wide_u16(x.known),
+        known: words::wide(x.known),
     }
 }
 
@@ -353,9 +456,16 @@ pub extern "C" fn yindorka_groups_with_sets(
 ) -> Counted
     ensures shown { ShowsGroups loaded.now pattern.now group.old lowest.old result group.new lowest.new }
 {
-    let own = screen::groups(loaded, pattern, group, lowest);
-    let answer = own.answer;
-    counted_of(answer, own.count)
+    match screen::groups(loaded, pattern) {
+        Ok(own) => {
+            let groups = own.group;
+            let bytes = own.lowest;
+            *group = groups;
+            *lowest = bytes;
+            count_of(own.count)
+        }
+        Err(e) => Counted::from(e),
+    }
 }
 
 // The byte groups of a pattern, with the fixed table.
@@ -380,7 +490,10 @@ pub extern "C" fn yindorka_readable_with_sets(
 ) -> Refusal
     ensures replaced { RewritesLine loaded.now pattern.now line.old result line.new }
 {
-    refusal_of(screen::readable(loaded, pattern, line))
+    match screen::readable(loaded, pattern, line) {
+        Ok(()) => accepted(),
+        Err(e) => Refusal::from(e),
+    }
 }
 
 // A line in readable bytes, with the fixed table.
@@ -390,28 +503,6 @@ pub extern "C" fn yindorka_readable(pattern: &[u8], line: &mut [u8]) -> Refusal
 {
     let fixed = sets::fixed();
     yindorka_readable_with_sets(&fixed, pattern, line)
-}
-
-fn numbers_of(x: Verdict) -> Outcome
-    ensures { result ≡ outcome_of x }
-{
-    match x {
-        Verdict::Alike { count } => Outcome {
-            kind: 0,
-            first: count,
-            second: 0,
-        },
-        Verdict::Unlike { count, length } => Outcome {
-            kind: 1,
-            first: count,
-            second: length,
-        },
-        Verdict::Refused { number, place } => Outcome {
-            kind: 2,
-            first: number as usize,
-            second: place,
-        },
-    }
 }
 
 // The checker's verdict, with what it writes to the table, to the witness buffer and to the area.
@@ -425,7 +516,7 @@ pub extern "C" fn yindorka_check_with_sets(
 ) -> Outcome
     ensures decided { Decided loaded.now pattern.now table.old witness.old area.old result table.new witness.new area.new }
 {
-    numbers_of(checker::check(loaded, pattern, table, witness, area))
+    Outcome::from(checker::check(loaded, pattern, table, witness, area))
 }
 
 // The checker's verdict, with the fixed table.
@@ -453,17 +544,7 @@ pub extern "C" fn yindorka_check_looking_with_sets(
 ) -> Looking
     ensures reported { Told loaded.now pattern.now table.old witness.old area.old result table.new witness.new area.new }
 {
-    let report = checker::check_looking(loaded, pattern, table, witness, area);
-    let looking = report.looking;
-    let verdict = report.verdict;
-    let outcome = numbers_of(verdict);
-    Looking {
-        kind: outcome.kind,
-        first: outcome.first,
-        second: outcome.second,
-        looks: looking.looks,
-        comparisons: looking.comparisons,
-    }
+    Looking::from(checker::check_looking(loaded, pattern, table, witness, area))
 }
 
 // The same, with how much looking through the records it took.

@@ -1,5 +1,6 @@
 -- `arrays::finish` meets its contract: the three passes, one after the other, make the arrays of the pattern.
 -- Assumes nothing.
+use native.Mathlib.Omega.{arith}
 use Rattle.arrays.proofs.Right.{finished}
 use Rattle.arrays.proofs.finish.Goals as goal
 
@@ -8,5 +9,6 @@ returns c =
     record {
       finished =
           let a = c.args in
-          finished a.loaded.now a.s.now a.codes.now _ _ _ c.masks_of-masks.result a.len c.within-n.result c.number_leaves-leaves.result c.within-n.ensures.1 c.number_leaves-leaves.ensures c.fill_sizes.ensures c.masks_of-masks.ensures;
+          finished a.loaded.now a.s.now a.codes.now.items c.number_leaves.new.leaves.places c.number_leaves.new.kinds c.fill_sizes.new.sizes c.masks_of-masks.result a.codes.now.len c.min-n.result
+          c.number_leaves.new.leaves.len c.min-n.ensures (omega arith) (omega arith) c.number_leaves.ensures c.fill_sizes.ensures c.masks_of-masks.ensures;
     }

@@ -2,13 +2,8 @@
 -- Assumes nothing.
 use native.Mathlib.Omega.{arith}
 use mathlib.Core.Path.{◌∙◌}
-use Rattle.arrays.proofs.Sizes.{left_before, size_before}
+use Rattle.arrays.proofs.Sizes.{size_before}
 use Rattle.arrays.proofs.size_at.Goals as goal
-
-pub size_of-requires : goal.size_of-requires
-size_of-requires c =
-    let a = c.args in
-    omega (arith, c.left_size.ensures, left_before a.sizes.now a.i (omega arith) c.requires.1)
 
 pub returns : goal.returns
 returns c =

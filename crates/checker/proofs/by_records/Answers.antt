@@ -13,4 +13,4 @@ pub returns-in-Witness : goal.returns-in-Witness
 returns-in-Witness c = recorded_witness c.search-course.ensures.searched c.in-Witness.is c.hand_over.ensures
 
 pub returns-in-Full : goal.returns-in-Full
-returns-in-Full c = recorded_full c.search-course.ensures.searched c.in-Full.is
+returns-in-Full c = rw c.at.ensures.refusal (recorded_full c.search-course.ensures.searched c.in-Full.is)

@@ -1,5 +1,4 @@
 -- `checker::check` meets its contract: it is the verdict of `check_looking`.
--- Assumes nothing.
 use Rattle.checker.proofs.check.Goals as goal
 
 pub returns : goal.returns

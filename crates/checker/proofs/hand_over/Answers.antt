@@ -8,7 +8,7 @@ pub line_length-length-requires : goal.line_length-length-requires
 line_length-length-requires c = c.requires.1
 
 pub returns-then-witness-length : goal.returns-then-witness-length
-returns-then-witness-length c = handed_short c.requires.1 c.line_length-length.ensures (omega arith)
+returns-then-witness-length c = rw c.at.ensures.refusal (handed_short c.requires.1 c.line_length-length.ensures (omega arith))
 
 pub write_line-requires : goal.write_line-requires
 write_line-requires c = record { lined = c.requires.1; size = c.line_length-length.ensures; room = omega arith }

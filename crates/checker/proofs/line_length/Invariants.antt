@@ -4,7 +4,7 @@ use Rattle.checker.proofs.Origins.{Counting}
 use Rattle.checker.proofs.line_length.Given as goal
 
 abbrev pub invariant-loop-k : goal.invariant-loop-k
-invariant-loop-k l = Counting l.width l.table l.k-2 l.k l.n
+invariant-loop-k l = Counting l.records.width l.records.bytes.now l.k-2 l.k l.n
 
 abbrev pub decreases-loop-k : goal.decreases-loop-k
 decreases-loop-k l = l.k

@@ -7,8 +7,8 @@ use Rattle.standing.proofs.Sets.{Rest}
 use Rattle.facts.proofs.carried.Given as goal
 
 -- Ends are left out: there are no flags.
-abbrev pub invariant-loop-rest : goal.invariant-loop-rest
-invariant-loop-rest l = Rest (has_bit l.took) l.sets [] (record { all = l.x; some = false }) l.rest
+abbrev pub invariant-loop-t : goal.invariant-loop-t
+invariant-loop-t l = Rest (has_bit l.took) l.sets [] (record { all = l.x; some = false }) l.rest
 
-abbrev pub decreases-loop-rest : goal.decreases-loop-rest
-decreases-loop-rest l = l.rest
+abbrev pub decreases-loop-t : goal.decreases-loop-t
+decreases-loop-t l = l.rest

@@ -20,7 +20,7 @@ returns c =
               wants = λ b h. rw (get_or-set_other n.result 256 b x 0 (λ i. omega arith)) (n.ensures.wants b h);
             };
             endings = rw last e.ensures.endings;
-            begins = c.how_of-b.ensures.finds;
-            closes = rw last c.how_of-e.ensures.finds;
+            begins = c.best_for-b.ensures;
+            closes = rw last c.best_for-e.ensures;
           };
     }

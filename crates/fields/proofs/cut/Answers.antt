@@ -4,8 +4,8 @@ use native.Mathlib.Omega.{arith}
 use Rattle.fields.proofs.Cutting.{cut_none, cut_some}
 use Rattle.fields.proofs.cut.Goals as goal
 
-pub returns-then-posix-ne1 : goal.returns-then-posix-ne1
-returns-then-posix-ne1 c = record { cuts = rw c.nothing.ensures (cut_none (λ i. omega (arith, c.type_inv.line i)) c.posix_span-posix.ensures.found c.if-posix-ne1.true) }
+pub returns-in_err-posix : goal.returns-in_err-posix
+returns-in_err-posix c = record { cuts = rw c.from_residual.ensures (cut_none (λ i. omega (arith, c.type_inv.line i)) c.in_err-posix.ensures.found) }
 
 pub returns : goal.returns
-returns c = record { cuts = cut_some (λ i. omega (arith, c.type_inv.line i)) c.posix_span-posix.ensures.found c.if-posix-ne1.false c.first_way-way.ensures.led }
+returns c = record { cuts = rw c.unwrap_or-way.ensures (cut_some (λ i. omega (arith, c.type_inv.line i)) c.first_way-way.result _ c.in_ok-posix.ensures.found c.first_way-way.ensures.led) }

@@ -1,13 +1,17 @@
--- `fields::prepare` meets its contract: the reader's answer decides, and the number of brackets.
+-- `fields::prepare` meets its contract: what the reader hands over decides, and the number of brackets.
 -- Assumes nothing.
+use mathlib.Core.Path.{refl}
+use Rattle.std.proofs.lemmas.Result.{err_from_is_err_and}
 use Rattle.fields.proofs.Preparing.{prepared_refused, prepared_many, prepared_ready}
 use Rattle.fields.proofs.prepare.Goals as goal
 
-pub returns-in_default : goal.returns-in_default
-returns-in_default c = record { prepared = prepared_refused c.read-reading.ensures.right c.in_default.is }
+pub returns-in_err-reading : goal.returns-in_err-reading
+returns-in_err-reading c =
+    let q = err_from_is_err_and c.from_residual.result c.from_residual.ensures.1 in
+    rw (q.1, q.2) (record { prepared = prepared_refused c.in_err-reading.ensures.right })
 
-pub returns-then-brackets-gt-MAX_FIELDS : goal.returns-then-brackets-gt-MAX_FIELDS
-returns-then-brackets-gt-MAX_FIELDS c = record { prepared = prepared_many c.read-reading.ensures.right c.in-Accepted.is c.if-brackets-gt-MAX_FIELDS.true }
+pub returns-in-Some : goal.returns-in-Some
+returns-in-Some c = record { prepared = rw c.at.ensures.refusal (prepared_many c.in_ok-reading.ensures.right c.in-Some.is) }
 
 pub returns : goal.returns
-returns c = record { prepared = prepared_ready c.read-reading.ensures.right c.in-Accepted.is c.if-brackets-gt-MAX_FIELDS.false c.marks_of.ensures.marked c.fill.ensures.filled }
+returns c = record { prepared = prepared_ready c.in_ok-reading.ensures.right c.in_default.is refl c.marks_of.ensures.marked c.tables_of.ensures.filled }

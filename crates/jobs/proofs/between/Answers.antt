@@ -16,4 +16,4 @@ part s a e k m p q =
     get_or-take (m - k) (drop k s) i 0 (omega arith) ∙ get_or-drop k s i 0 ∙ ap (λ n. get_or s (n + i) 0) here ∙ sym (get_or-drop a (take e s) i 0 ∙ get_or-take e s (a + i) 0 inside)
 
 pub returns : goal.returns
-returns c = record { part = part c.args.text.now c.args.from c.args.to c.least-start.result c.least-end.result c.least-end.ensures.least c.least-start.ensures.least }
+returns c = record { part = part c.args.text.now c.args.from c.args.to c.min.result c.min-end.result c.min-end.ensures c.min.ensures }

@@ -7,4 +7,4 @@ use Rattle.lengths.proofs.Capped.{copies_limit}
 use Rattle.lengths.proofs.greatest_copies.Goals as goal
 
 pub returns : goal.returns
-returns c = rw c.in-Limit.is (ap limit c.product.ensures ∙ ap cap_longest (sym (copies_limit _ _)))
+returns c = rw c.in_ok-a.was (ap limit c.product.ensures ∙ ap cap_longest (sym (copies_limit _ _)))

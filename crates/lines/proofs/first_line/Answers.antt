@@ -1,9 +1,14 @@
 -- A line that is not whole goes on with what an exchange leaves.
-use Rattle.std.proofs.Common.{sym, ◌∙◌}
-use Rattle.lines.proofs.Exchanging.{sought_more, wants_open}
+use Rattle.std.proofs.Common.{refl, sym, ◌∙◌, inl, inr}
+use Rattle.lines.proofs.Exchanging.{sought_first, sought_more, wants_open, nothing_waits}
 use Rattle.lines.proofs.first_line.Goals as goal
 
-pub loop-turns-preserved : goal.loop-turns-preserved
-loop-turns-preserved g c =
-    let l = c.loop-turns in
-    sought_more (wants_open l.s (sym c.wants_line.ensures ∙ c.if-wants_line.true)) l.invariant c.exchange-s.ensures.exchanged c.next_line-s.ensures.next
+pub loop-init : goal.loop-init
+loop-init g c = (sought_first c.new-input.ensures.new, inl (refl, c.new-input.ensures.new))
+
+pub loop-preserved : goal.loop-preserved
+loop-preserved g c =
+    let l = c.loop in (
+      sought_more (wants_open l.input (sym c.wants_line.ensures ∙ c.if-not-wants_line.false)) l.invariant.0 c.exchange.ensures.exchanged c.next_line.ensures.next,
+      inr (nothing_waits c.exchange.ensures.exchanged),
+    )

@@ -1,9 +1,8 @@
--- The first line is whole, or what is kept is its beginning. The measure is the turns left.
+-- The first line is whole, or what is kept is its beginning. Nothing is read before the first turn, and nothing waits after a turn.
+use Rattle.std.proofs.Common.{◌≡◌, ◌⊎◌}
+use Rattle.lines.specs.Lines.{fresh}
 use Rattle.lines.proofs.Exchanging.{Sought}
 use Rattle.lines.proofs.first_line.Given as goal
 
-abbrev pub invariant-loop-turns : goal.invariant-loop-turns
-invariant-loop-turns g l = Sought l.chunk l.line l.s
-
-abbrev pub decreases-loop-turns : goal.decreases-loop-turns
-decreases-loop-turns g l = l.turns
+abbrev pub invariant-loop : goal.invariant-loop
+invariant-loop g l = Sought l.input × (((l.counter ≡ 0) × (l.input ≡ fresh)) ⊎ (l.out.used ≡ 0))

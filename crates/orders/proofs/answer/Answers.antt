@@ -1,14 +1,14 @@
--- `orders::answer` meets its contract: the line's length decides, and what is asked for.
--- Assumes nothing.
-use native.Mathlib.Omega.{arith}
-use Rattle.orders.proofs.Ordering.{answered_long, asked_fields, asked_spans}
+-- Both spans are there, or the greedy span with its fields.
+use Rattle.std.proofs.Common.{arith}
+use Rattle.orders.proofs.Ordering.{answer_cut, answer_fields}
 use Rattle.orders.proofs.answer.Goals as goal
 
-pub returns-then-line-gt-MAX_BYTES : goal.returns-then-line-gt-MAX_BYTES
-returns-then-line-gt-MAX_BYTES c = record { answered = answered_long _ (omega arith) c.refused.ensures.printed }
+pub returns-in-Some : goal.returns-in-Some
+returns-in-Some c =
+    let u = c.spans.ensures.printed in
+    record { answered = rw c.in-Spans.is (u.0, answer_cut (omega arith) (rw c.view.ensures.view at c.in-Some.ensures.cuts) u.1, omega (arith, u.2), u.3) }
 
-pub returns-then-brackets : goal.returns-then-brackets
-returns-then-brackets c = record { answered = asked_fields _ c.if-brackets.true c.answer_fields.ensures }
-
-pub returns : goal.returns
-returns c = record { answered = asked_spans _ c.if-brackets.false c.answer_spans.ensures }
+pub returns-in-Some-cut : goal.returns-in-Some-cut
+returns-in-Some-cut c =
+    let u = c.fields.ensures.printed in
+    record { answered = rw c.in-Fields.is (u.0, answer_fields (omega arith) (rw c.view-in-Fields.ensures.view at c.in-Some-cut.ensures.cuts) u.1, omega (arith, u.2), u.3) }

@@ -6,10 +6,10 @@ use Rattle.pairs.proofs.extends.Goals as goal
 
 pub returns-then-both : goal.returns-then-both
 returns-then-both c =
-    decides_empty c.shares_of-shares.ensures c.ending_leaves-ending.ensures.endings c.live_leaves-live.result c.live_leaves-live.ensures
+    decides_empty c.shares_of-shares.ensures c.ending_leaves.ensures.endings c.live-live.result c.live-live.ensures
     (rw c.both.ensures.both at c.if-both.true)
 
 pub returns : goal.returns
 returns c =
-    decides_pairs c.shares_of-shares.ensures c.ending_leaves-ending.ensures.endings c.live_leaves-live.result c.live_leaves-live.ensures
+    decides_pairs c.shares_of-shares.ensures c.ending_leaves.ensures.endings c.live-live.result c.live-live.ensures
     (rw c.both.ensures.both at c.if-both.false) (search rules) (rw c.clear.ensures at c.mark_all-waiting.ensures) c.search.ensures

@@ -7,10 +7,10 @@ use lib.ListN.{length}
 use Rattle.pairs.specs.Rows.{MarkedBy, sharing}
 use Rattle.pairs.proofs.mark_all.Given as goal
 
-abbrev pub invariant-loop-rest : goal.invariant-loop-rest
-invariant-loop-rest l =
+abbrev pub invariant-loop-t : goal.invariant-loop-t
+invariant-loop-t l =
     (length l.area ≡ length l.initial.area)
     × ((t : List ℕ) (r : ℕ) → MarkedBy (sharing l.shares l.rest l.to) l.area l.waiting t r → MarkedBy (sharing l.shares l.from l.to) l.initial.area l.waiting-2 t r)
 
-abbrev pub decreases-loop-rest : goal.decreases-loop-rest
-decreases-loop-rest l = l.rest
+abbrev pub decreases-loop-t : goal.decreases-loop-t
+decreases-loop-t l = l.rest

@@ -4,8 +4,8 @@
 use Rattle.pairs.proofs.Shares.{Sharing}
 use Rattle.pairs.proofs.share.Given as goal
 
-abbrev pub invariant-loop-rest : goal.invariant-loop-rest
-invariant-loop-rest l = Sharing l.initial.shares l.mask l.rest l.shares
+abbrev pub invariant-loop-t : goal.invariant-loop-t
+invariant-loop-t l = Sharing l.initial.shares l.mask l.rest l.shares
 
-abbrev pub decreases-loop-rest : goal.decreases-loop-rest
-decreases-loop-rest l = l.rest
+abbrev pub decreases-loop-t : goal.decreases-loop-t
+decreases-loop-t l = l.rest

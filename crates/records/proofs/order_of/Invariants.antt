@@ -1,14 +1,15 @@
--- `records::order_of` meets its contract. The invariant: what is left to take out after i times three bytes completes the list. The measure is the groups of three left.
+-- `records::order_of` meets its contract. The invariant: the bytes left are those from i times three on, and what is left to take out of them completes the list.
 -- Assumes nothing.
 use Prim.Native.Nat.{◌+◌, ◌-◌, ◌*◌, ◌≤◌}
-use lib.ListN.{drop, replicate}
+use lib.ListN.{drop, take, replicate}
 use lib.Seq.{sets}
+use Rattle.std.specs.Slice.Iter.{chunks_exact_rest, chunks_exact_size}
 use Rattle.records.specs.Bytes.{fours}
 use mathlib.Core.Path.{◌≡◌}
 use Rattle.records.proofs.order_of.Given as goal
 
 abbrev pub invariant-loop-i : goal.invariant-loop-i
-invariant-loop-i l = (l.i ≤ 16) × (sets l.list (4 * l.i) (fours (16 - l.i) (drop (13 + 3 * l.i) l.v)) ≡ sets (replicate 64 0) 0 (fours 16 (drop 13 l.v)))
-
-abbrev pub decreases-loop-i : goal.decreases-loop-i
-decreases-loop-i l = 16 - l.i
+invariant-loop-i l =
+    let i = l.i-iterator.count in
+    let left = l.i-iterator.iter in
+    (i ≤ 16) × (chunks_exact_size left ≡ 3) × (chunks_exact_rest left ≡ drop (3 * i) (take 48 (drop 13 l.v))) × (sets l.list (4 * i) (fours (16 - i) (drop (13 + 3 * i) l.v)) ≡ sets (replicate 64 0) 0 (fours 16 (drop 13 l.v)))

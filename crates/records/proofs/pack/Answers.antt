@@ -11,8 +11,4 @@ pub returns : goal.returns
 returns c =
     let a = c.args in
     let long : length a.s.list ≡ 64 = search rules in
-    record {
-      packed =
-          rw (c.put_origin.ensures, c.put_set.ensures, c.put_flags.ensures, c.with_order-v.ensures, c.least-n.ensures.least)
-          (pack_right a.s a.origin a.byte long (omega arith));
-    }
+    record { packed = rw (c.put_origin.ensures, c.put_set.ensures, c.put_flags.ensures, c.with_order-v.ensures, c.min-n.ensures) (pack_right a.s a.origin a.byte long (omega arith)) }

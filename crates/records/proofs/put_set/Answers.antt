@@ -1,4 +1,4 @@
--- `records::put_set` meets its contract. The invariant: what is left to put in from place i on completes the eight bytes. The measure is the bytes left.
+-- `records::put_set` meets its contract. The invariant: what is left to put in from place i on completes the eight bytes.
 -- Assumes nothing.
 use native.Mathlib.Omega.{arith}
 use Prim.Native.Nat.{◌-◌}
@@ -11,11 +11,11 @@ pub loop-i-preserved : goal.loop-i-preserved
 loop-i-preserved c =
     let p = c.loop-i in
     let e : c.turned.result ≡ turn 8 p.y = c.turned.ensures.0 in
-    (omega arith, omega arith, rw e (put_more p.v p.i p.y (omega arith) ∙ p.invariant.2))
+    rw e (put_more p.v p.i p.y (omega arith) ∙ p.invariant)
 
 pub returns : goal.returns
 unfolding bytes_of
 returns c =
     let p = c.loop-i in
     let n : 10 - p.i ≡ 0 = omega arith in
-    rw n at p.invariant.2
+    rw n at p.invariant

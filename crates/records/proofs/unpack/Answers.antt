@@ -4,4 +4,4 @@ use Rattle.records.proofs.Right.{unpack_right}
 use Rattle.records.proofs.unpack.Goals as goal
 
 pub returns : goal.returns
-returns c = record { unpacked = rw (c.order_of-list.ensures, c.set_of-all.ensures, c.wide.ensures.same.0) (unpack_right c.args.v) }
+returns c = record { unpacked = rw (c.order_of-list.ensures, c.set_of-all.ensures, c.from.ensures) (unpack_right c.args.v) }

@@ -1,7 +1,7 @@
--- `records::with_order` meets its contract. The invariant: what is left to put in after i times four numbers completes the bytes of (a), and zeros stand there. The measure is the groups of four left.
+-- `records::with_order` meets its contract. The invariant: what is left to put in after i times four numbers completes the bytes of (a), and zeros stand there.
 -- Assumes nothing.
-use Prim.Native.Nat.{◌+◌, ◌-◌, ◌*◌, ◌≤◌}
-use lib.ListN.{take, drop, replicate}
+use Prim.Native.Nat.{◌+◌, ◌-◌, ◌*◌}
+use lib.ListN.{drop, replicate}
 use lib.Seq.{sets}
 use Rattle.records.specs.Bytes.{threes}
 use Rattle.records.proofs.Orders.{Zeros}
@@ -9,7 +9,4 @@ use mathlib.Core.Path.{◌≡◌}
 use Rattle.records.proofs.with_order.Given as goal
 
 abbrev pub invariant-loop-i : goal.invariant-loop-i
-invariant-loop-i l = (l.i ≤ 16) × (sets l.v (13 + 3 * l.i) (threes (16 - l.i) (drop (4 * l.i) (take l.n l.list))) ≡ sets (replicate 64 0) 13 (threes 16 (take l.n l.list))) × Zeros (13 + 3 * l.i) l.v
-
-abbrev pub decreases-loop-i : goal.decreases-loop-i
-decreases-loop-i l = 16 - l.i
+invariant-loop-i l = (sets l.v (13 + 3 * l.i) (threes (16 - l.i) (drop (4 * l.i) l.leaves)) ≡ sets (replicate 64 0) 13 (threes 16 l.leaves)) × Zeros (13 + 3 * l.i) l.v

@@ -1,13 +1,7 @@
--- `sets::check` meets its contract. The invariant: the table has 256 entries, and each below b passes. The measure is the entries left.
--- Assumes nothing.
-use native.Mathlib.Omega.{arith}
-use mathlib.Core.Path.{◌≡◌}
-use mathlib.Core.Bool.{true}
-use lib.ListN.{get_or}
-use borrow.Author.Count.{below_more}
+-- At the first entry that fails, each before it passes.
+use Rattle.std.proofs.Common.{◌≡◌, ◌∙◌, true, sym, arith, get_or, below_more}
 use borrow.Author.Tests.{not-true, not-false}
 use Rattle.grammar.specs.Loaded.{passes, unfit, at_entry}
-use Rattle.sets.proofs.Passing.{seen}
 use Rattle.sets.proofs.check.Goals as goal
 
 pub returns-then-loaded-ne-ENTRIES : goal.returns-then-loaded-ne-ENTRIES
@@ -15,10 +9,10 @@ returns-then-loaded-ne-ENTRIES c = record { checked = unfit c.if-loaded-ne-ENTRI
 
 pub returns-then-fails : goal.returns-then-fails
 returns-then-fails c =
-    let l = c.loop-b in
-    record { checked = at_entry {q = l.b} l.invariant.0 (omega arith) (not-true _ (seen c.fails.ensures c.if-fails.true)) l.invariant.2 }
+    let l = c.loop-place in
+    record { checked = at_entry l.invariant.0 (omega arith) (not-true _ (sym c.fails.ensures ∙ c.if-fails.true)) l.invariant.1 }
 
-pub loop-b-preserved : goal.loop-b-preserved
-loop-b-preserved c =
-    let l = c.loop-b in
-    (l.invariant.0, omega arith, below_more (λ k. passes (get_or c.args.loaded.now k 0) ≡ true) l.b l.invariant.2 (not-false _ (seen c.fails.ensures c.if-fails.false)))
+pub loop-place-preserved : goal.loop-place-preserved
+loop-place-preserved c =
+    let l = c.loop-place in
+    (l.invariant.0, below_more (λ k. passes (get_or c.args.loaded.now k 0) ≡ true) l.place l.invariant.1 (not-false _ (sym c.fails.ensures ∙ c.if-fails.false)))

@@ -4,8 +4,8 @@ use Rattle.standing.specs.Sets.{goes}
 use Rattle.standing.proofs.Sets.{Rest}
 use Rattle.standing.proofs.wants_after.Given as goal
 
-abbrev pub invariant-loop-rest : goal.invariant-loop-rest
-invariant-loop-rest l = Rest (goes l.from l.mask) l.sets l.ends l.w l.rest
+abbrev pub invariant-loop-t : goal.invariant-loop-t
+invariant-loop-t l = Rest (goes l.from l.mask) l.tables.sets.now l.tables.ends.now l.w l.rest
 
-abbrev pub decreases-loop-rest : goal.decreases-loop-rest
-decreases-loop-rest l = l.rest
+abbrev pub decreases-loop-t : goal.decreases-loop-t
+decreases-loop-t l = l.rest

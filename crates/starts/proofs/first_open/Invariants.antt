@@ -6,7 +6,7 @@ use Rattle.starts.proofs.Opens.{Opening}
 use Rattle.starts.proofs.first_open.Given as goal
 
 abbrev pub invariant-loop-i : goal.invariant-loop-i
-invariant-loop-i l = Opening l.masks l.sets l.next l.begins l.closes l.line l.base l.i l.set
+invariant-loop-i l = Opening l.tables.masks.now l.tables.sets.now l.facts.next.now l.begins.how l.ends.how l.line l.base l.i l.set
 
 abbrev pub decreases-loop-i : goal.decreases-loop-i
 decreases-loop-i l = length l.line - l.i

@@ -1,13 +1,14 @@
--- `starts::posix_span` meets its contract, in each way that it answers.
+-- What is left: each way that it answers.
 -- Assumes nothing.
+use mathlib.Core.Path.{refl}
 use Rattle.starts.proofs.Whole.{found_empty, found_none, found_by}
 use Rattle.starts.proofs.posix_span.Goals as goal
 
-pub returns-then-ends-eq1 : goal.returns-then-ends-eq1
-returns-then-ends-eq1 c = record { found = found_empty c.if-ends-eq1.true c.last_end-e.ensures.last }
+pub returns-then-tables-eq1 : goal.returns-then-tables-eq1
+returns-then-tables-eq1 c = record { found = rw c.unwrap_or.ensures (found_empty c.if-tables-eq1.true (rw c.ending.ensures.ending at c.last_end-last.ensures.last)) }
 
-pub returns-then-open-ne1 : goal.returns-then-open-ne1
-returns-then-open-ne1 c = record { found = rw c.nowhere.ensures (found_none c.if-ends-eq1.false (rw (c.begins-begins.ensures.begins, c.closes-closes.ensures.closes) at c.first_open-open.ensures) c.if-open-ne1.true) }
+pub returns-in_err-from : goal.returns-in_err-from
+returns-in_err-from c = record { found = rw c.from_residual.ensures (found_none c.if-tables-eq1.false c.in_err-from.ensures refl) }
 
 pub returns : goal.returns
-returns c = record { found = found_by c.if-ends-eq1.false (rw (c.begins-begins.ensures.begins, c.closes-closes.ensures.closes) at c.first_open-open.ensures) c.if-open-ne1.false c.span_from.ensures }
+returns c = record { found = found_by c.if-tables-eq1.false c.in_ok-from.ensures refl c.span_from.ensures }

@@ -1,7 +1,7 @@
--- `starts::span_from` meets its contract: a match begins at the place, or blocks find the next.
+-- What is left: a match begins at the place.
 -- Assumes nothing.
 use Rattle.starts.proofs.Whole.{searched_here}
 use Rattle.starts.proofs.span_from.Goals as goal
 
-pub returns-then-e-eq1 : goal.returns-then-e-eq1
-returns-then-e-eq1 c = searched_here c.last_end-e.ensures.last c.if-e-eq1.true
+pub returns-in-Some : goal.returns-in-Some
+returns-in-Some c = searched_here (rw c.ending.ensures.ending at c.last_end.ensures.last) c.in-Some.is

@@ -1,24 +1,19 @@
--- `table::comparison_end` meets its contract: the bytes from `width` on are looked at by neither comparison.
+-- `table::comparison_end` meets its contract: both parts that it looks at, one after the other.
 -- Assumes nothing.
-use mathlib.Core.Path.{◌≡◌, sym, ◌∙◌}
-use Prim.Native.Nat.{◌-◌}
-use native.Mathlib.Omega.{arith}
-use lib.ListN.{drop}
-use Rattle.table.specs.Looks.{first_unequal}
-use Rattle.table.proofs.Comparisons.{ends_before, ends_after, end_taken}
+use Rattle.std.proofs.Common.{◌∙◌}
+use Rattle.std.proofs.lemmas.List.{take_rest}
+use Rattle.table.proofs.Comparisons.{front_found, back_found, back_none}
 use Rattle.table.proofs.comparison_end.Goals as goal
 
-pub returns-then-front-lt10 : goal.returns-then-front-lt10
-returns-then-front-lt10 c =
+pub returns-in-Some : goal.returns-in-Some
+returns-in-Some c = front_found c.args.u.now c.args.v.now c.requires.0 c.in-Some.place c.in-Some.ensures
+
+pub returns-in_err-place : goal.returns-in_err-place
+returns-in_err-place c =
     let a = c.args in
-    let u = drop a.at a.table.now in
-    let e : c.first_unequal-front.result ≡ first_unequal 10 0 u a.v.now = c.first_unequal-front.ensures in
-    e ∙ sym (end_taken a.width u a.v.now (omega arith) ∙ ends_before a.width u a.v.now (omega arith))
+    c.from_residual.ensures ∙ back_none a.u.now a.v.now c.requires.0 c.in_default.ensures (take_rest a.u.now 13) (take_rest a.v.now 13) c.in_err-place.ensures
 
 pub returns : goal.returns
 returns c =
     let a = c.args in
-    let u = drop a.at a.table.now in
-    let e = c.first_unequal-front.ensures in
-    let f : c.first_unequal.result ≡ first_unequal (a.width - 13) 13 u a.v.now = c.first_unequal.ensures in
-    f ∙ sym (end_taken a.width u a.v.now (omega arith) ∙ ends_after a.width u a.v.now (omega arith))
+    back_found a.u.now a.v.now c.requires.0 c.in_default.ensures (take_rest a.u.now 13) (take_rest a.v.now 13) c.in_ok-place.place c.in_ok-place.ensures

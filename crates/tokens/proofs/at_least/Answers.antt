@@ -9,6 +9,6 @@ pub returns : goal.returns
 returns c =
     record {
       written =
-          let starred = rw c.star_code.ensures at c.push-starred.ensures.added in
-          same_codes (then_added (then_added c.copies-copied.ensures.written.1 starred) c.pushes.ensures.added) (at_least_codes_lem (manner c.args.lazy) c.args.times);
+          let starred = rw c.star_code-starred.ensures at c.push.ensures.added in
+          same_codes (then_added (then_added c.copies.ensures.written.1 starred) c.pushes.ensures.added) (at_least_codes_lem (manner c.args.lazy) c.args.times);
     }

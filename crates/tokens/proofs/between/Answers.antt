@@ -12,6 +12,6 @@ pub returns : goal.returns
 returns c =
     record {
       written =
-          same_codes (then_added (then_added (then_added c.all_copies-copied.ensures.written c.shut-inner.ensures.added) c.closes-closed.ensures.added) c.pushes.ensures.added)
+          same_codes (then_added (then_added (then_added c.all_copies.ensures.written c.shut.ensures.added) c.closes.ensures.added) c.pushes.ensures.added)
           (between_codes_lem (manner c.args.lazy) c.args.least c.args.most c.if-most-least.false);
     }

@@ -1,17 +1,9 @@
 -- The ends of optional copies: after i turns, those of i.
 -- Assumes nothing.
-use mathlib.Core.Path.{◌≡◌}
-use native.Mathlib.Omega.{arith}
 use Rattle.grammar.specs.Code.Codes.{manner}
-use Rattle.tokens.proofs.Laws.{added_none, added_more, same_added}
+use Rattle.tokens.proofs.Laws.{added_more, same_added}
 use Rattle.tokens.proofs.Blocks.{close_more}
 use Rattle.tokens.proofs.closes.Goals as goal
 
-pub loop-i-init : goal.loop-i-init
-loop-i-init c = (omega arith, added_none _ _)
-
-pub loop-i-preserved : goal.loop-i-preserved
-loop-i-preserved c = (omega arith, same_added (added_more (added_more c.loop-i.invariant.1 c.push-end.ensures.added) c.shut-end.ensures.added) (close_more (manner c.args.lazy) c.loop-i.i))
-
-pub returns : goal.returns
-returns c = record { added = let e : c.loop-i.i ≡ c.args.n = omega arith in rw e at c.loop-i.invariant.1 }
+pub loop-preserved : goal.loop-preserved
+loop-preserved c = same_added (added_more (added_more c.loop.invariant c.push.ensures.added) c.shut.ensures.added) (close_more (manner c.args.lazy) c.loop.counter)

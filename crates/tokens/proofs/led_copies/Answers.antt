@@ -3,24 +3,18 @@
 use native.Mathlib.Omega.{arith}
 use mathlib.Core.List.{[], ◌∷◌}
 use Rattle.grammar.specs.Code.Codes.{empty_kind}
-use Rattle.tokens.proofs.Laws.{outside, same_codes}
+use Rattle.tokens.proofs.Laws.{same_codes}
 use Rattle.tokens.proofs.Blocks.{none_first}
 use Rattle.tokens.proofs.Copying.{copies_of, led_copies}
 use Rattle.tokens.proofs.led_copies.Goals as goal
 
-pub returns-then-len-from : goal.returns-then-len-from
-returns-then-len-from c = record { written = outside _ _ _ _ c.if-len-from.true }
-
 pub returns-then-least-eq0 : goal.returns-then-least-eq0
-returns-then-least-eq0 c = record { written = same_codes (copies_of c.args.around c.lead-led.ensures.written c.copies.ensures.written.1) (none_first c.args.around _ c.if-least-eq0.true (empty_kind ∷ [])) }
-
-pub copy-end-requires : goal.copy-end-requires
-copy-end-requires c = omega (arith, c.push-none.ensures.added.more, c.copies-copied.ensures.written.0, c.if-len-from.false)
+returns-then-least-eq0 c = record { written = same_codes (copies_of c.args.around c.lead.ensures.written c.copies.ensures.written.1) (none_first c.args.around _ c.if-least-eq0.true (empty_kind ∷ [])) }
 
 pub returns : goal.returns
 returns c =
     record {
       written =
-          led_copies c.args.least c.args.around (omega (arith, c.if-least-eq0.false)) c.if-len-from.false c.copies-copied.ensures.written.1 c.push-none.ensures.added
-          c.copy-end.ensures.copied c.copies-2.ensures.written.1;
+          led_copies c.args.least c.args.around (omega (arith, c.if-least-eq0.false)) c.if-a-from.false c.copies-2.ensures.written.1 c.push.ensures.added
+          c.copy.ensures.copied c.copies-3.ensures.written.1;
     }

@@ -1,12 +1,8 @@
 -- One code n times: after i turns it has been added i times.
 -- Assumes nothing.
-use Prim.Native.Nat.{◌≤◌, ◌-◌}
 use lib.ListN.{replicate}
 use Rattle.tokens.specs.Held.{Added}
 use Rattle.tokens.proofs.pushes.Given as goal
 
-abbrev pub invariant-loop-i : goal.invariant-loop-i
-invariant-loop-i l = (l.i ≤ l.n) × Added l.initial.a l.len (replicate l.i l.code) l.a l.end
-
-abbrev pub decreases-loop-i : goal.decreases-loop-i
-decreases-loop-i l = l.n - l.i
+abbrev pub invariant-loop : goal.invariant-loop
+invariant-loop l = Added l.initial.a.items l.initial.a.len (replicate l.counter l.code) l.a.items l.a.len

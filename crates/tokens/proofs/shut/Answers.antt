@@ -2,9 +2,11 @@
 -- Assumes nothing.
 use Rattle.tokens.proofs.Laws.{added_more}
 use Rattle.tokens.proofs.shut.Goals as goal
-
-pub returns-then-lazy : goal.returns-then-lazy
-returns-then-lazy c = record { added = rw c.if-lazy.true c.push.ensures.added }
+use Rattle.tokens.proofs.shut.Goals.{then-not-lazy, else-not-lazy}
 
 pub returns : goal.returns
-returns c = record { added = rw c.if-lazy.false (added_more c.push-none.ensures.added c.push-2.ensures.added) }
+returns c =
+    elim c.if-not-lazy.branch [
+      | then-not-lazy w ↦ record { added = rw w.if-not-lazy.true (added_more w.push.ensures.added (rw w.a-is at c.push-2.ensures.added)) }
+      | else-not-lazy w ↦ record { added = rw w.if-not-lazy.false (rw w.a-is at c.push-2.ensures.added) }
+    ]

@@ -3,8 +3,8 @@
 use Rattle.yindorka.proofs.Answers.{fields_none, fields_some}
 use Rattle.yindorka.proofs.yindorka_cut_fields.Goals as goal
 
-pub returns-then-x-ne1 : goal.returns-then-x-ne1
-returns-then-x-ne1 c = record { cuts = fields_none c.cut-x.ensures.cuts c.if-x-ne1.true }
+pub returns-in_default : goal.returns-in_default
+returns-in_default c = record { cuts = fields_none c.view_of-view.ensures c.in_default.ensures.cuts }
 
 pub returns : goal.returns
-returns c = record { cuts = fields_some c.cut-x.ensures.cuts c.if-x-ne1.false c.wide_u16.ensures.same.0 }
+returns c = record { cuts = fields_some c.view_of-view.ensures c.in-Some.ensures.cuts c.wide.ensures.same.0 }

@@ -1,13 +1,8 @@
--- `standing::Front::read_row` meets its contract. The invariant: what is left of the row gives what the whole row gives. The measure is what is left.
+-- `standing::Front::read_row` meets its contract. The invariant: the outcomes before x are read.
 -- Assumes nothing.
-use Rattle.standing.specs.Reads.{gathered, Sound, row_of}
-use Rattle.standing.proofs.Fronts.{Rest}
-use Prim.Native.Nat.{◌≤◌, ◌-◌}
-use lib.ListN.{length, take, drop}
+use Rattle.standing.specs.Reads.{Read}
+use lib.ListN.{take}
 use Rattle.standing.proofs.Front.read_row.Given as goal
 
-abbrev pub invariant-loop-i : goal.invariant-loop-i
-invariant-loop-i l = (l.end ≤ 4225) × (l.end ≤ length l.rows) × Sound (gathered l.list l.r) × Rest (gathered l.initial.list l.initial.r) (row_of l.rows l.lens l.k) (gathered l.list l.r) (take (l.end - l.i) (drop l.i l.rows))
-
-abbrev pub decreases-loop-i : goal.decreases-loop-i
-decreases-loop-i l = l.end - l.i
+abbrev pub invariant-loop-x : goal.invariant-loop-x
+invariant-loop-x l = Read l.initial.self (take l.x-index l.row) l.self

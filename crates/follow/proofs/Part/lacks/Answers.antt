@@ -1,0 +1,2 @@
+-- `follow::Part::lacks` meets its contract.
+-- Assumes nothing.

@@ -1,0 +1,2 @@
+-- How long an answer is.
+mod Sizes

@@ -1,2 +1,0 @@
--- The checks of an entry in the turn in which they are made.
-mod Passing
