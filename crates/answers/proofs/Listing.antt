@@ -2,6 +2,7 @@
 -- Assumes nothing.
 use mathlib.Core.Path.{◌≡◌, refl, ap, ◌∙◌, subst, subst₂}
 use Prim.Native.Nat.{ℕ}
+use mathlib.Core.Logic.{◌⊎◌, inl, inr}
 use mathlib.Core.List.{List, [], ◌++◌}
 use native.Mathlib.Omega.{arith}
 use lib.ListN.{length-append}
@@ -20,7 +21,7 @@ use Rattle.printing.specs.declared.Output.{Output}
 use Rattle.printing.specs.Text.{Prints, option_of, RefusedLine, LengthsText, Ahead, GroupsLine}
 use Rattle.printing.proofs.Laws.{join}
 use Rattle.answers.specs.declared.Buffers.{Buffers}
-use Rattle.answers.specs.Answer.{Reported, Detailed, Listed}
+use Rattle.answers.specs.Answer.{Reported, Detailed, Listed, Asked, for_verdict, for_spans, for_looking, for_details, for_groups}
 use Rattle.answers.specs.Cutting.{Begun, long, unread}
 
 module _ {loaded p w : List ℕ} where
@@ -50,3 +51,11 @@ detailed (long {t = t} reads (v, l, s, f)) (w, z, i, g) =
     (v ++ w, record { answer = Due.accepted t; right = reads; head = v; long = l; rest = w; reported = z; text = refl }, omega (arith, length-append v w), join f g)
 detailed (unread {k = k} {q = q} fault s) (w, z, i, g) =
     (w, record { answer = Due.refused k q; right = fault; head = []; long = refl; rest = w; reported = z; text = refl }, omega arith, rw s at g)
+
+-- What is asked, if it is neither the verdict nor the spans nor the groups.
+pub a_report : (asked : Asked) → (asked ≡ for_verdict → ⊥) → (asked ≡ for_spans → ⊥) → (asked ≡ for_groups → ⊥) → (asked ≡ for_looking) ⊎ (asked ≡ for_details)
+a_report for_looking f g h = inl refl
+a_report for_details f g h = inr refl
+a_report for_verdict f g h = absurd (f refl)
+a_report for_spans f g h = absurd (g refl)
+a_report for_groups f g h = absurd (h refl)

@@ -44,23 +44,23 @@ pub trait Question {
 }
 
 // The verdict.
-#[derive(Drop)]
+#[derive(Clone, Copy)]
 pub struct Verdicts;
 
 // The same with both spans of the witness and its readable form.
-#[derive(Drop)]
+#[derive(Clone, Copy)]
 pub struct Spans;
 
 // This, and before it how much looking it took.
-#[derive(Drop)]
+#[derive(Clone, Copy)]
 pub struct Looking;
 
 // And before this how long a match can be.
-#[derive(Drop)]
+#[derive(Clone, Copy)]
 pub struct Details;
 
 // Its byte groups.
-#[derive(Drop)]
+#[derive(Clone, Copy)]
 pub struct Groups;
 
 // Appends the verdict's line. The witness stands at the start of its buffer.
@@ -250,7 +250,9 @@ impl<'a, Q: Question> Responder for Patterns<'a, Q> {
     }
 }
 
-// Answers the patterns of the input, until it is over or a read or a write fails.
+// Answers the patterns of the input, until it is over or a read or a write fails. It is no part of its caller's frame, so that a program that asks one of several questions has one
+// set of buffers on its stack.
+#[inline(never)]
 pub fn run<P: Print, R: Read, Q: Question + Drop>(
     rt: &P,
     reader: &mut R,

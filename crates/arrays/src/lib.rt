@@ -10,7 +10,7 @@ ghost use Rattle.arrays.specs.Passes.{Noted, Numbered, Small, left_size, size_of
 ghost use Rattle.arrays.specs.Finished.{Finished};
 
 // The reader's codes: those of the first `len` places. A code is a number and no enum, since the grammar's definition of tokens, `token_of`, reads it as one.
-#[derive(Drop)]
+#[derive(Clone, Copy)]
 pub struct Codes {
     pub items: [u16; Pattern::MAX_PARTS],
     pub len: usize,

@@ -13,13 +13,16 @@
 #![tactic(auto)]
 
 ghost use Rattle.std.specs.Prelude.{◌≡◌};
+ghost use Rattle.lines.specs.Lines.{held};
+ghost use Rattle.ask.specs.Orders.{PreparedAs};
 ghost use Rattle.ask.specs.Table.{TableLine};
 
 use answers::{Details, Groups, Looking};
 use lines::Input;
+use orders::Orders;
 use printing::Output;
 use queries::{Loading, Query};
-use reader::refusal::Fault;
+use reader::refusal::{Fault, Refusal};
 use std::io::Read;
 
 // Nothing is known by that word.
@@ -48,6 +51,21 @@ fn serve_table<P: Print>(rt: &P, input: &mut Input, out: &mut Output, loaded: &[
     input.write_out(rt, out);
 }
 
+// What order lines are answered with, by the pattern on the first line, if it is order lines that are asked for.
+fn prepare(loaded: &[u8], input: &Input, query: Query) -> Option<Result<Orders, Refusal>>
+    ensures { PreparedAs loaded.now (held input.now.line) query result }
+{
+    match query {
+        Query::Spans { at } => Some(orders::prepare(loaded, input, at)),
+        Query::Fields { at } => Some(orders::prepare_fields(loaded, input, at)),
+        Query::Groups => None,
+        Query::Looking => None,
+        Query::Details => None,
+        Query::Table => None,
+        Query::Unknown => None,
+    }
+}
+
 // Answers what is asked by the word at a place of the first line, with the table that is loaded. Nothing waits then.
 fn serve_query<P: Print, R: Read>(
     rt: &P,
@@ -59,20 +77,17 @@ fn serve_query<P: Print, R: Read>(
 )
     ensures { out.new.used ≡ 0 }
 {
-    match queries::query_at(input.line.held(), at) {
-        Query::Spans { at } => {
-            let prepared = orders::prepare(loaded, input, at);
-            orders::serve(rt, reader, input, out, prepared);
-        }
-        Query::Fields { at } => {
-            let prepared = orders::prepare_fields(loaded, input, at);
-            orders::serve(rt, reader, input, out, prepared);
-        }
+    let query = queries::query_at(input.line.held(), at);
+    if let Some(prepared) = prepare(loaded, input, query) {
+        orders::serve(rt, reader, input, out, prepared);
+        return;
+    }
+    match query {
         Query::Groups => answers::run(rt, reader, input, out, loaded, Groups),
         Query::Looking => answers::run(rt, reader, input, out, loaded, Looking),
         Query::Details => answers::run(rt, reader, input, out, loaded, Details),
         Query::Table => serve_table(rt, input, out, loaded),
-        Query::Unknown => unknown(rt, input, out),
+        _ => unknown(rt, input, out),
     }
 }
 
@@ -90,7 +105,8 @@ fn serve<P: Print, R: Read>(rt: &P, reader: &mut R, input: &mut Input, out: &mut
 fn main(rt: HostRuntime) {
     let mut reader = rt.stdin();
     let mut out = Output::new();
-    let mut input = lines::first_line(&rt, &mut reader, &mut out);
+    let mut input = Input::new();
+    input.first_line(&rt, &mut reader, &mut out);
     if input.line.whole {
         serve(&rt, &mut reader, &mut input, &mut out);
     }

@@ -123,7 +123,7 @@ fn decide(x: &Pattern, table: &mut [u8], witness: &mut [u8], area: &mut [u8]) ->
 {
     let own = follow::tables_of(x);
     let tables = own.view(&x.masks);
-    match pairs::test(area, tables) {
+    match pairs::test(area, tables.by_sets()) {
         Err(TooShort) => without_look(Err(Fault::AreaTooShort.at(0))),
         Ok(Ending::Passes) => without_look(Ok(Verdict::Alike { count: 0 })),
         Ok(Ending::Fails) => {

@@ -9,18 +9,18 @@ use seeking::Alike;
 use standing::Standing;
 
 // From a place on, to the line's end or until no leaf is wanted: the last end that the leaves lead to, or what is found before.
-// The loop is no `for`: a turn goes past a whole run of bytes.
+// The loop is no `for`: a turn goes past a whole run of bytes. Two of the tables alone, as it needs no more.
 pub fn last_end(
     line: &[u8],
     from: usize,
     leaves: u64,
     found: Option<usize>,
     ending: u64,
-    tables: TablesView,
+    masks: &[u64; 256],
+    sets: &[u64; 65],
 ) -> Option<usize>
-    ensures last { Last tables.entry.masks.now tables.entry.sets.now line.now ending from leaves found result }
+    ensures last { Last masks.now sets.now line.now ending from leaves found result }
 {
-    let masks = tables.masks;
     let mut last = found;
     let mut set = leaves;
     let mut i = from;
@@ -29,7 +29,7 @@ pub fn last_end(
             return last;
         }
         let took = set & masks[usize::from(line[i])];
-        let to = facts::carried(took, tables.sets);
+        let to = facts::carried(took, sets);
         let alike = Alike {
             all: set,
             kind: took,

@@ -7,13 +7,13 @@ ghost use Rattle.seeking.specs.Hows.{Finds};
 ghost use Rattle.facts.specs.Sets.{Wants, Endings, Nexts};
 ghost use Rattle.facts.specs.Known.{facts, facts_in, how_at, ending_in, Known};
 
-use follow::TablesView;
+use follow::SetsView;
 use seeking::How;
 
 // The leaves after which an end stands have the last place of `next`.
 pub const ENDING: usize = 256;
 
-#[derive(Drop)]
+#[derive(Clone, Copy)]
 pub struct Facts {
     // for each byte what the first leaves want after it; then the leaves after which an end stands: one array, since C keeps it
     pub next: [u64; 257],
@@ -45,14 +45,14 @@ impl FactsView<'_> {
     pub fn begins(self) -> How
         ensures begins { result ≡ how_at self.entry.hows.now 0 }
     {
-        how_at(self.hows, 0)
+        begins(self.hows)
     }
 
     // How the bytes that end one are looked for.
     pub fn closes(self) -> How
         ensures closes { result ≡ how_at self.entry.hows.now 5 }
     {
-        how_at(self.hows, 5)
+        closes(self.hows)
     }
 
     // The leaves after which an end stands.
@@ -78,6 +78,19 @@ fn how_at(hows: &[u8; 10], at: usize) -> How
         },
         _ => How::Any,
     }
+}
+
+// How the bytes that begin a match are looked for, and how those that end one, by this array alone.
+pub fn begins(hows: &[u8; 10]) -> How
+    ensures begins { result ≡ how_at hows.now 0 }
+{
+    how_at(hows, 0)
+}
+
+pub fn closes(hows: &[u8; 10]) -> How
+    ensures closes { result ≡ how_at hows.now 5 }
+{
+    how_at(hows, 5)
 }
 
 // The five bytes that say it. Where no byte is looked for, one is named all the same: what a caller in C has kept stays as it is.
@@ -140,7 +153,7 @@ fn next_sets(masks: &[u64; 256], sets: &[u64; 65]) -> [u64; 257]
 }
 
 // The facts of the pattern whose tables are lent.
-pub fn facts_of(tables: TablesView) -> Facts
+pub fn facts_of(tables: SetsView) -> Facts
     ensures known { Known tables.entry.masks.now tables.entry.sets.now tables.entry.ends.now (facts result.next result.hows) }
 {
     let ending = ending_leaves(tables.ends);

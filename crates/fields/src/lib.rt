@@ -23,7 +23,7 @@ pub struct Piece {
 }
 
 // What is worked out of a pattern once, for any number of lines: its tables, the masks of its fields, and how many fields it has.
-#[derive(Drop)]
+#[derive(Clone, Copy)]
 pub struct Prepared {
     pub tables: Tables,
     pub marks: [u16; 4225],
@@ -72,8 +72,8 @@ const NO_WAY: Way = Way {
 pub fn cut(line: &[u8], view: View, marks: &[u16; 4225]) -> Option<Piece>
     ensures cuts { Cuts (tables_of view.entry) marks.now line.now result }
 {
-    let posix = starts::posix_span(line, view.tables, view.facts)?;
-    let way = threads::first_way(line, posix.start, view.tables, marks);
+    let posix = starts::posix_span(line, view.tables.by_sets(), view.facts)?;
+    let way = threads::first_way(line, posix.start, view.tables.by_rows(), marks);
     let way = way.unwrap_or(NO_WAY);
     let places = way.places;
     Some(Piece {

@@ -8,7 +8,7 @@ ghost use Rattle.grammar.specs.Code.Tokens.{max_parts};
 ghost use Rattle.grammar.specs.Code.Codes.{first_field, first_leaf};
 ghost use Rattle.arrays.specs.Decoded.{decode, middle};
 ghost use Rattle.follow.specs.Rows.{Right, Marked};
-ghost use Rattle.follow.specs.Views.{shown};
+ghost use Rattle.follow.specs.Views.{shown, by_sets, by_rows};
 ghost use Rattle.follow.specs.Outcomes.{Lists};
 ghost use Rattle.follow.specs.Parts.{within, Begins, Nexts, Chooses, parting, lacks};
 ghost use Rattle.follow.specs.Stores.{IsWhole, IsRow, Long, Stored};
@@ -21,7 +21,7 @@ mod outcomes;
 use outcomes::Outcomes;
 
 // Row 0 is the start's, row p + 1 the leaf p's; row k begins at 65 k. Four arrays of numbers and no array of rows, since callers in C keep them.
-#[derive(Drop)]
+#[derive(Clone, Copy)]
 pub struct Tables {
     // the outcomes in order: 0 the end, q + 1 the wanted leaf q
     pub rows: [u8; 4225],
@@ -41,6 +41,44 @@ pub struct TablesView<'a> {
     pub lens: &'a [u8; 65],
     pub sets: &'a [u64; 65],
     pub ends: &'a [u8; 65],
+}
+
+// Those of them that tell leaves apart as bits alone: enough where no order counts.
+#[derive(Clone, Copy)]
+pub struct SetsView<'a> {
+    pub masks: &'a [u64; 256],
+    pub sets: &'a [u64; 65],
+    pub ends: &'a [u8; 65],
+}
+
+// Those of them that have the outcomes in order: enough where leaves are taken one by one.
+#[derive(Clone, Copy)]
+pub struct RowsView<'a> {
+    pub masks: &'a [u64; 256],
+    pub rows: &'a [u8; 4225],
+    pub lens: &'a [u8; 65],
+}
+
+impl<'a> TablesView<'a> {
+    pub fn by_sets(self) -> SetsView<'a>
+        ensures sets { result ≡ by_sets self.entry }
+    {
+        SetsView {
+            masks: self.masks,
+            sets: self.sets,
+            ends: self.ends,
+        }
+    }
+
+    pub fn by_rows(self) -> RowsView<'a>
+        ensures rows { result ≡ by_rows self.entry }
+    {
+        RowsView {
+            masks: self.masks,
+            rows: self.rows,
+            lens: self.lens,
+        }
+    }
 }
 
 impl Tables {
@@ -289,8 +327,10 @@ pub fn marks_of(x: &Pattern) -> [u16; 4225]
 {
     let whole = Part::of(x);
     let mut marks = [0u16; 4225];
+    // one list for all rows: at the place of an outcome that a row has not, the mask of an earlier row stays, as callers in C have it
+    let mut row = Outcomes::none();
     for k in 0..65u8 {
-        let mut row = Outcomes::none();
+        row.clear();
         whole.row(k, &mut row);
         let at = 65 * usize::from(k);
         marks[at..at + 65].copy_from_slice(&row.fields);

@@ -36,6 +36,15 @@ impl Outcomes {
         }
     }
 
+    // Without its outcomes. The masks stay where they are.
+    pub fn clear(&mut self)
+        ensures { Lists self.new [] }
+    {
+        self.len = 0;
+        self.set = 0;
+        self.end = false;
+    }
+
     pub fn holds(&self, p: u8) -> bool
         requires { p ≤ 64 }
         ensures { result ≡ member p (listed self.now) }

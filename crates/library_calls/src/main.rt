@@ -27,9 +27,6 @@ const WITNESS_BYTE: u8 = 187;
 
 const AREA_BYTE: u8 = 204;
 
-// No answer is longer: the verdict with a witness in hex, the table, the witness buffer, the area and a word.
-const LONGEST: usize = 24642;
-
 // A pattern: its first n bytes.
 #[derive(Drop)]
 struct Pattern {
@@ -199,10 +196,12 @@ fn call(
 impl Responder for Calls {
     ghost answers = { λ x l w y. Unit {0} };
 
-    ghost LONGEST = { 24642 };
+    ghost LONGEST = { 65536 };
 
+    // No answer is longer than 24,642 bytes: the verdict with a witness in hex, the table, the witness buffer, the area and a word. Asking for the whole output has each
+    // written out before the next call.
     fn longest(&self) -> usize {
-        LONGEST
+        printing::SIZE
     }
 
     fn answer(&mut self, out: &mut Output, line: &[u8]) {

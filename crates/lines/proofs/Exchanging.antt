@@ -4,10 +4,17 @@ use mathlib.Core.Path.{◌≡◌, refl, sym, ap, ◌∙◌}
 use mathlib.Core.Bool.{Bool, true, false, not, true≢false}
 use mathlib.Core.List.{List, [], ◌∷◌, ◌++◌, append-nil}
 use Prim.Native.Nat.{ℕ, ◌≤◌, ◌<◌}
-use lib.ListN.{length, take, set}
+use lib.Dec.{ltb}
+use borrow.Author.Tests.{ltb-true}
+use lib.ListN.{length, get_or, take, set}
 use lib.Seq.{take-suc-set, take-take}
 use native.Mathlib.Omega.{arith}
 use Rattle.std.specs.Prelude.{Option}
+use Rattle.std.specs.List.{list_all}
+use Rattle.std.specs.Str.{IsUtf8}
+use Rattle.std.proofs.lemmas.Str.{IsUtf8-from_ascii}
+use Rattle.std.proofs.lemmas.Str.Ascii.{IsAscii-from_all}
+use Rattle.std.proofs.lemmas.List.Sums.{AllPass-from_list_all}
 use denote.Enum.Bare.{sameb}
 use Rattle.lines.specs.contracts.Source.{the_type}
 use Rattle.printing.specs.declared.Output.{Output}
@@ -15,7 +22,7 @@ use Rattle.lines.specs.declared.Source.{Source}
 use Rattle.lines.specs.declared.Source.TheVariants.{Open, Over, Unread, Unwritten}
 use Rattle.lines.specs.declared.Input.{Input}
 use Rattle.lines.specs.Lines.{up_to, kept, rest, held, begun, goes_on, Line, here, later, NextLine, fresh, FirstLine}
-use Rattle.lines.specs.Exchange.{Written, done, failed, Took, ReadMore, more, over, unread, Exchanged, unwritten, closed, waits, read, of_source, finished, Finished}
+use Rattle.lines.specs.Exchange.{Written, done, failed, Took, ReadMore, more, over, unread, Exchanged, unwritten, closed, waits, read, of_source, finished, Finished, fault_line}
 use Rattle.lines.specs.Steps.{wants_line}
 use Rattle.lines.proofs.Laws.{not_ended}
 
@@ -115,6 +122,18 @@ sought_last {s = s} e h = record { found = h.found; none = λ w. rw w at e }
 
 pub sought_lost : (s : Input) → wants_line s ≡ true → FirstLine (of_source s Unread)
 sought_lost s e = record { found = λ w. absurd (true≢false (sym w ∙ wants_open s e)); none = λ w. refl }
+
+-- The line that tells a failure is ASCII, and so it is text.
+ascii : (l : List ℕ) → list_all (λ b. ltb b 128) l ≡ true → IsUtf8 l
+ascii l h =
+    let p = AllPass-from_list_all (λ b. ltb b 128) l h in
+    IsUtf8-from_ascii l (IsAscii-from_all l (λ k d lt. ltb-true (get_or l k d) 128 (p k d lt)))
+
+pub fault_text : (x : Source) → IsUtf8 (fault_line x)
+fault_text Open = ascii [] refl
+fault_text Over = ascii [] refl
+fault_text Unread = ascii (fault_line Unread) refl
+fault_text Unwritten = ascii (fault_line Unwritten) refl
 
 -- There is no further line at a program's end.
 pub at_the_end : (s : Input) {r : Input} {o : Output} → o.used ≡ 0 → r ≡ finished s → Finished r o

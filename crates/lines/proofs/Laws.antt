@@ -1,14 +1,15 @@
 -- Laws of the bytes of a line: those before its newline, and the first ones of them.
 -- Assumes nothing.
 use mathlib.Core.Path.{◌≡◌, refl, sym, ap, ◌∙◌}
-use mathlib.Core.Bool.{Bool, true, false, true≢false}
+use mathlib.Core.Bool.{Bool, true, false, not, true≢false}
 use mathlib.Core.List.{List, [], ◌∷◌, ◌++◌}
 use Prim.Native.Nat.{ℕ, zero, suc, ◌+◌, ◌-◌, ◌≤◌, ◌<◌, min}
 use native.Mathlib.Omega.{arith}
 use native.Mathlib.Numerals.{add-one}
-use lib.ListN.{length, take, drop, get_or, length-append, length-take}
-use lib.Dec.{eqb}
-use borrow.Author.Tests.{eq-eqb, eqb-true}
+use lib.ListN.{length, take, drop, get_or, set, length-append, length-take}
+use lib.Seq.{take_all, take-append-le, take-suc-set}
+use lib.Dec.{T, eqb, leb, leb→le, nleb→lt}
+use borrow.Author.Tests.{eq-eqb, eqb-true, lt-leb}
 use Rattle.std.specs.Prelude.{None, Some}
 use Rattle.std.specs.List.{position, position_or_len, starts_with}
 use Rattle.std.proofs.lemmas.List.Quantifiers.{position-Some}
@@ -25,6 +26,16 @@ pub take_cut : (k : ℕ) (x y : List ℕ) → take k (take k x ++ y) ≡ take k 
 take_cut zero x y = refl
 take_cut (suc k) [] y = refl
 take_cut (suc k) (a ∷ x) y = ap (λ l. a ∷ l) (take_cut k x y)
+
+-- One byte more, where there is room, and where there is none.
+pub keep_one : (k : ℕ) (l : List ℕ) (n b : ℕ) → n < length l → n < k → take (n + 1) (set l n b) ≡ take k (take n l ++ (b ∷ []))
+keep_one k l n b h j =
+    let p : length (take n l) ≡ min n (length l) = length-take n l in
+    let q : length (take n l ++ (b ∷ [])) ≡ length (take n l) + 1 = length-append (take n l) (b ∷ []) in
+    ap (λ i. take i (set l n b)) (add-one n) ∙ take-suc-set l n b h ∙ sym (take_all k (take n l ++ (b ∷ [])) (omega arith))
+
+pub keep_none : (k : ℕ) (l : List ℕ) (n b : ℕ) → n ≡ k → k ≤ length l → take n l ≡ take k (take n l ++ (b ∷ []))
+keep_none k l n b e h = rw e (sym (take_cut k l (b ∷ []) ∙ take-append-le k l (b ∷ []) h))
 
 -- No more than all.
 pub take_least : (k : ℕ) (l : List ℕ) (n : ℕ) → length l ≡ n → take (min k n) l ≡ take k l
@@ -85,3 +96,17 @@ begins_is s word r e =
           ext_get_or 0 (take (length word) s) word (omega (arith, length-take (length word) s, b.0)) (λ k h. get_or-take (length word) s k 0 (omega (arith, length-take (length word) s)) ∙ b.1 k (omega (arith, length-take (length word) s))) in
           true≢false (sym (is.1 (drop (length word) s) (sym (take-append-drop (length word) s) ∙ ap (λ x. x ++ drop (length word) s) same)) ∙ t);
     }
+
+-- What fits in a buffer after what waits there: nothing longer than the buffer,
+pub no_room : (n k : ℕ) → 65536 < k → false ≡ leb (n + k) 65536
+no_room n k h = sym (lt-leb (n + k) 65536 (omega arith))
+
+-- and else what the rest can take.
+pub same_room : (n k : ℕ) → k ≤ 65536 → leb n (65536 - k) ≡ leb (n + k) 65536
+same_room n k h = go (leb n (65536 - k)) (leb (n + k) 65536) (leb→le n (65536 - k)) (nleb→lt n (65536 - k)) (leb→le (n + k) 65536) (nleb→lt (n + k) 65536)
+  where
+    go : (a b : Bool) → (T a → n ≤ 65536 - k) → (T (not a) → 65536 - k < n) → (T b → n + k ≤ 65536) → (T (not b) → 65536 < n + k) → a ≡ b
+    go true true p q s t = refl
+    go false false p q s t = refl
+    go true false p q s t = absurd (let x = p tt in let y = t tt in omega arith)
+    go false true p q s t = absurd (let x = q tt in let y = s tt in omega arith)

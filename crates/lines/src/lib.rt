@@ -261,6 +261,25 @@ impl Input {
         !self.line.whole && self.goes_on()
     }
 
+    // Reads until a line is whole: none is where the input is over or cannot be read. The input is lent, so that none of it is copied.
+    pub fn first_line<P: Print, R: Read>(&mut self, rt: &P, reader: &mut R, out: &mut Output)
+        ensures first { self.old ≡ fresh → FirstLine self.new }
+        ensures waits { self.old ≡ fresh → out.new.used ≡ 0 }
+    {
+        // As in `run`, there is a last turn.
+        for _ in 0..u64::MAX {
+            if !self.wants_line() {
+                break;
+            }
+            self.exchange(rt, reader, out);
+            self.next_line();
+        }
+        if self.wants_line() {
+            let lost = Source::Unread;
+            self.source = lost;
+        }
+    }
+
     // Answers the lines that end in the chunk, in their order, while there is room for a further answer.
     pub fn answer_lines<A: Responder>(&mut self, responder: &mut A, out: &mut Output)
         ensures served { Served A.answers A.LONGEST self.old out.old responder.old self.new out.new responder.new }
@@ -290,7 +309,7 @@ impl Input {
                 break;
             }
             self.answer_lines(responder, out);
-            self.exchange(rt, reader, out);
+            self.exchange(rt, reader, out); // what waits goes out
         }
         self.finish();
     }
@@ -312,23 +331,13 @@ pub fn has_room(out: &Output, longest: usize) -> bool
     longest <= printing::SIZE && out.used <= printing::SIZE - longest
 }
 
-// Reads until a line is whole: none is where the input is over or cannot be read.
+// The same of a new input.
 pub fn first_line<P: Print, R: Read>(rt: &P, reader: &mut R, out: &mut Output) -> Input
     ensures first { FirstLine result }
     ensures waits { out.new.used ≡ 0 }
 {
     let mut input = Input::new();
-    // As in `run`, there is a last turn.
-    for _ in 0..u64::MAX {
-        if !input.wants_line() {
-            break;
-        }
-        input.exchange(rt, reader, out);
-        input.next_line();
-    }
-    if input.wants_line() {
-        input.source = Source::Unread;
-    }
+    input.first_line(rt, reader, out);
     input
 }
 

@@ -21,7 +21,8 @@ fn serve<P: Print, R: Read>(rt: &P, reader: &mut R, input: &mut Input, out: &mut
 fn main(rt: HostRuntime) {
     let mut reader = rt.stdin();
     let mut out = Output::new();
-    let mut input = lines::first_line(&rt, &mut reader, &mut out);
+    let mut input = Input::new();
+    input.first_line(&rt, &mut reader, &mut out);
     if input.line.whole {
         serve(&rt, &mut reader, &mut input, &mut out);
     }

@@ -26,7 +26,7 @@ pub struct Spans {
 pub fn cut(line: &[u8], view: View) -> Option<Spans>
     ensures cuts { Cuts (tables_of view.entry) line.now result }
 {
-    let span = starts::posix_span(line, view.tables, view.facts)?;
+    let span = starts::posix_span(line, view.tables.by_sets(), view.facts)?;
     // a greedy end is no later than the POSIX end, which by the tables of a pattern is within the line
     let n = span.end.min(line.len());
     let greedy = ends::greedy_end(&line[..n], span.start, view.tables);

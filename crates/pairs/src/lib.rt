@@ -12,7 +12,7 @@ ghost use Rattle.pairs.specs.Leaves.{Shares, Shared, LivePass, LiveLeaves};
 ghost use Rattle.pairs.specs.Steps.{Searches, Decides};
 ghost use Rattle.pairs.specs.Tested.{Tested};
 
-use follow::TablesView;
+use follow::SetsView;
 
 // How many bytes of the area the test needs.
 pub const AREA: usize = 1024;
@@ -182,7 +182,7 @@ fn search(area: &mut [u8], waiting: u64, live: u64, leaves: Leaves) -> bool
 }
 
 // Whether some matched string extends to a longer one: the empty one, or one that leads to a pair.
-fn extends(area: &mut [u8], tables: TablesView) -> bool
+fn extends(area: &mut [u8], tables: SetsView) -> bool
     requires { 1024 ≤ length area.old }
     ensures { Decides tables.entry.masks.now tables.entry.sets.now tables.entry.ends.now area.old result area.new }
 {
@@ -204,7 +204,7 @@ fn extends(area: &mut [u8], tables: TablesView) -> bool
 
 // The test of the pattern whose tables are lent. What the area's first 1,024 bytes hold does not matter; afterwards they are zero, and the rest is kept.
 // An area that is too short is kept.
-pub fn test(area: &mut [u8], tables: TablesView) -> Result<Ending, TooShort>
+pub fn test(area: &mut [u8], tables: SetsView) -> Result<Ending, TooShort>
     ensures tested { Tested tables.entry.masks.now tables.entry.sets.now tables.entry.ends.now area.old result area.new }
 {
     if area.len() < AREA {

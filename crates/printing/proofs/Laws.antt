@@ -4,13 +4,13 @@ use mathlib.Core.Path.{◌≡◌, refl, sym, ap, ◌∙◌, subst}
 use Prim.Native.Nat.{ℕ, suc, ◌+◌, ◌*◌, ◌-◌, ◌≤◌, ◌<◌, ◌/◌, ◌%◌, ◌^◌, min}
 use mathlib.Core.Bool.{Bool, true, false, not}
 use mathlib.Core.Option.{none, some}
-use mathlib.Core.List.{List, [], ◌∷◌, ◌++◌, append_assoc}
+use mathlib.Core.List.{List, [], ◌∷◌, ◌++◌, append_assoc, append-nil}
 use native.Mathlib.Omega.{arith}
 use native.Mathlib.Numerals.{add-one}
 use native.Mathlib.Nat.{pow-le-pow_right}
 use lib.Dec.{T, leb, leb→le, nleb→lt}
-use lib.ListN.{length, take, get_or, length-append, length-take}
-use lib.Seq.{take_all, take-append-add, take-append-le, take-suc, take-take, length-take-le}
+use lib.ListN.{length, take, get_or, set, length-append, length-take, length-set}
+use lib.Seq.{take_all, take-append-add, take-append-le, take-suc, take-suc-set, take-take, length-take-le}
 use borrow.Rule.Slice.PartMut.{put_mid}
 use Rattle.std.proofs.lemmas.Slice.{take-put_mid}
 use Rattle.io.specs.Digits.{hex_digit_ascii, last_digits, IsDigitCount}
@@ -79,6 +79,54 @@ put_fits a s ys u i n z e f y =
           ∙ sym (take-append-add (take i a) s n)
           ∙ ap (λ j. take (j + n) (take i a ++ s)) t
           ∙ ap (λ x. take (i + n) (x ++ s)) w;
+    }
+
+-- w is appended, and the buffer keeps its length.
+pub record Put (old : List ℕ) (n : ℕ) (w : List ℕ) (new : List ℕ) (m : ℕ) : Type 0 where
+  pub kept : length new ≡ length old
+  pub appended : Appended old n w new m
+
+-- Nothing, and a byte.
+pub put_none : (a : List ℕ) (n m : ℕ) → length a ≡ 65536 → m ≡ min n (length a) → Put a n [] a m
+put_none a n m z e =
+    record {
+      kept = refl;
+      appended =
+          record {
+            buffer = z;
+            size = omega arith;
+            text = rw append-nil (sym (take-take m n a (omega arith)));
+          };
+    }
+
+pub put_one : (a : List ℕ) (n b : ℕ) → length a ≡ 65536 → n < length a → Put a n (b ∷ []) (set a n b) (n + 1)
+put_one a n b z h =
+    let l : length (take n a ++ (b ∷ [])) ≡ length (take n a) + 1 = length-append (take n a) (b ∷ []) in
+    let p : length (take n a) ≡ min n (length a) = length-take n a in
+    record {
+      kept = length-set a n b;
+      appended =
+          record {
+            buffer = z;
+            size = omega arith;
+            text =
+                ap (λ i. take i (set a n b)) (add-one n)
+                ∙ take-suc-set a n b h
+                ∙ sym (take_all (n + 1) (take n a ++ (b ∷ [])) (omega arith));
+          };
+    }
+
+-- A full buffer takes nothing.
+pub put_full : (a : List ℕ) (n m : ℕ) (w : List ℕ) → length a ≡ 65536 → length a ≤ n → m ≡ length a → Put a n w a m
+put_full a n m w z h e =
+    record {
+      kept = refl;
+      appended =
+          record {
+            buffer = z;
+            size = omega arith;
+            text = ap (λ l. take m l) (sym (take_all n a h)) ∙ sym (take-append-le m (take n a) w (omega (arith, length-take n a)));
+          };
     }
 
 hex_join : (l m : List ℕ) → hex (l ++ m) ≡ hex l ++ hex m
@@ -208,6 +256,9 @@ put_more_fields {a} {b} {c} {x} l i p q e h = subst (λ v. PutFields v a c) (ap 
   most = omega (arith, length-append p.text q.text, length-append (take i l) (x ∷ []), p.most, q.most);
   put = join p.put q.put;
 })
+
+pub put_all_fields : {a b : Output} (l : List ℕ) (i : ℕ) → PutFields (take i l) a b → length l ≤ i → PutFields l a b
+put_all_fields {a} {b} l i p h = subst (λ v. PutFields v a b) (take_all i l h) p
 
 pub fields_size : (word from to second rest : List ℕ) {n : ℕ} → length word ≡ 6 → length second ≡ 7 → length from ≤ 21 → length to ≤ 21 → length rest ≤ 42 * n → n ≤ 8
     → length (word ++ (from ++ (to ++ (second ++ (rest ++ (10 ∷ [])))))) ≤ 392

@@ -48,14 +48,20 @@ impl Output {
         }
     }
 
-    // The bytes of a slice, as far as they fit.
+    // The bytes of a slice, as far as they fit: one by one, since most texts are a few bytes, for which a copy of a slice takes longer. Where the text is a word of the program
+    // its bytes are put without a loop.
+    #[inline(always)]
     fn put(&mut self, s: &[u8])
         ensures { Adds self.old s.now self.new }
     {
-        let start = self.used.min(SIZE);
-        let n = s.len().min(SIZE - start);
-        self.bytes[start..start + n].copy_from_slice(&s[..n]);
-        self.used = start + n;
+        let mut end = self.used.min(SIZE);
+        for &b in s {
+            if end < SIZE {
+                self.bytes[end] = b;
+                end += 1;
+            }
+        }
+        self.used = end;
     }
 
     // What counts as in use is in the array, also where nothing is put.
@@ -66,6 +72,7 @@ impl Output {
     }
 
     // A word, a space and a number in decimal.
+    #[inline(always)]
     fn put_field(&mut self, word: &[u8], x: usize)
         ensures { PutField word.now x self.old self.new }
     {

@@ -3,7 +3,7 @@
 use Rattle.std.specs.Prelude.{None, Some}
 use Rattle.std.proofs.Common.{◌≡◌, ℕ, suc, ◌+◌, ◌*◌, ◌-◌, ◌≤◌, ◌<◌, Bool, true, false, ◌&&◌, cond, List, [], ◌∷◌, ◌++◌, length, get_or, take, drop, set, replicate, refl, sym, ap, ◌∙◌, append_assoc, append-nil, arith, length-append}
 use Rattle.std.proofs.lemmas.Option.{cond_some, none-some}
-use lib.Seq.{take_all, set_at, append_snoc, take-nil}
+use lib.Seq.{drop-cons, take_all, set_at, append_snoc, take-nil}
 use Rattle.queries.specs.Hex.{is_hex, hex_value, digit_of, unhex, table_of, entries_of}
 use Rattle.queries.specs.declared.Table.{Table}
 
@@ -81,6 +81,28 @@ module _ (s : List ℕ) where
               ∙ ap (λ l. f.done ++ take (512 - n) l) (sym next_entry)
               ∙ f.others;
         }
+
+-- The pair of digits whose second one is at the place i, and what follows.
+pair_at : (s : List ℕ) (i : ℕ) → 0 < i → i < length s → drop (i - 1) s ≡ get_or s (i - 1) 0 ∷ get_or s i 0 ∷ drop (i + 2 - 1) s
+pair_at s i h j =
+    let a = get_or s (i - 1) 0 in
+    let k : i - 1 < length s = omega arith in
+    let e : suc (i - 1) ≡ i = omega arith in
+    let f : suc i ≡ i + 2 - 1 = omega arith in
+    drop-cons s (i - 1) 0 k
+    ∙ ap (λ x. a ∷ drop x s) e
+    ∙ ap (λ l. a ∷ l) (drop-cons s i 0 j)
+    ∙ ap (λ x. a ∷ get_or s i 0 ∷ drop x s) f
+
+both : (a b : Bool) (x y : List ℕ) → a ≡ true → b ≡ true → cond (a && b) x y ≡ x
+both a b x y p q = rw (p, q) refl
+
+module _ (text : List ℕ) (i : ℕ) (h : 0 < i) where
+  -- Both are digits.
+  pub next_pair_lem : i < length text → is_hex (get_or text (i - 1) 0) ≡ true → is_hex (get_or text i 0) ≡ true
+      → unhex (drop (i - 1) text) ≡ (16 * hex_value (get_or text (i - 1) 0) + hex_value (get_or text i 0)) ∷ unhex (drop (i + 2 - 1) text)
+  unfolding unhex
+  next_pair_lem j p q = ap unhex (pair_at text i h j) ∙ both (is_hex (get_or text (i - 1) 0)) (is_hex (get_or text i 0)) _ _ p q
 
 -- No entry is left, or there is no room for it.
 all : {text rest : List ℕ} {t : Table} → Filled text rest t → take (512 - t.count) (unhex rest) ≡ [] → t ≡ table_of (entries_of text)

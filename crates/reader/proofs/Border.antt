@@ -7,10 +7,11 @@ use mathlib.Core.List.{List, [], ◌∷◌, map}
 use native.Mathlib.Omega.{arith}
 use lib.ListN.{length, get_or, take, drop, replicate, length-replicate, length-drop, length-map}
 use lib.Seq.{take_all}
-use lib.Dec.{ltb}
+use lib.Dec.{ltb, ltb→lt, lt→ltb}
+use Rattle.theory.proofs.Tests.{T_true, not_true}
 use Rattle.theory.proofs.Numbering.{number_count}
 use Rattle.grammar.specs.Grammar.{alternation}
-use Rattle.grammar.specs.Limits.{heaviest, Reads}
+use Rattle.grammar.specs.Limits.{max_weight, heaviest, Reads}
 use Rattle.grammar.specs.Brackets.{brackets, openings, max_fields, ninth}
 use Rattle.grammar.specs.Sets.{in_named}
 use Rattle.grammar.specs.WriteOut.{shape, write_out}
@@ -31,9 +32,10 @@ use Rattle.lengths.specs.Lengths.{lengths}
 use Rattle.lengths.specs.Code.{meaning}
 use Rattle.lengths.proofs.Accepted.{counted_whole}
 use Rattle.reader.specs.declared.size.Size.{Size}
-use Rattle.std.specs.Prelude.{Some, None, Ok, Err}
+use Rattle.std.specs.Prelude.{Some, None, Result, Ok, Err}
 use Rattle.reader.specs.declared.Found.{Found}
 use Rattle.reader.specs.declared.refusal.Refusal.{Refusal}
+use Rattle.reader.specs.declared.refusal.Fault.{Fault as RefusalFault}
 use Rattle.reader.specs.declared.refusal.Fault.TheVariants.{TooLong, StrayByte, TooHeavy, FaultySets}
 use Rattle.reader.specs.declared.Brackets.{Brackets}
 use Rattle.reader.specs.declared.Text.{Text}
@@ -134,3 +136,24 @@ pub read_accepted : {loaded p : List ℕ} {k : Codes} {x : Text} (y : Pattern) �
 read_accepted {loaded} y (within sets (tree r g h w)) made =
     let holds = w loaded y made in
     reads (record { sets = sets; reads = r }) holds.decodes (record { holds = subst (Arrays.HoldsPattern y) (sym holds.decodes) holds; counted = g; measured = h })
+
+-- The refusal for that fault at that place.
+abbrev pub refused_at : RefusalFault → ℕ → Result Found Refusal
+refused_at f q = Err (record { fault = f; place = q })
+
+-- The answer to a pattern of n bytes by what was found from its start: a `)` where the alternation ends has no `(`.
+abbrev pub answer_by : ℕ → Result Found Refusal → Result Found Refusal
+answer_by n (Err e) = Err e
+answer_by n (Ok x) = cond (ltb x.at n) (refused_at StrayByte x.at) (cond (ltb max_weight x.size.weight) (refused_at TooHeavy x.at) (Ok x))
+
+pub answer_refused : {f : RefusalFault} {q : ℕ} (n : ℕ) (part : Result Found Refusal) → part ≡ refused_at f q → refused_at f q ≡ answer_by n part
+answer_refused n part e = rw e refl
+
+pub answer_close : {x : Found} (n : ℕ) (part : Result Found Refusal) → part ≡ Ok x → x.at < n → refused_at StrayByte x.at ≡ answer_by n part
+answer_close {x} n part q h = rw (q, T_true (ltb x.at n) (lt→ltb x.at n h)) refl
+
+pub answer_heavy : {x : Found} (n : ℕ) (part : Result Found Refusal) → part ≡ Ok x → n ≤ x.at → 64 < x.size.weight → refused_at TooHeavy x.at ≡ answer_by n part
+answer_heavy {x} n part q h w = rw (q, not_true (ltb x.at n) (λ t. omega (arith, ltb→lt x.at n t)), T_true (ltb 64 x.size.weight) (lt→ltb 64 x.size.weight w)) refl
+
+pub answer_accepted : {x : Found} (n : ℕ) (part : Result Found Refusal) → part ≡ Ok x → n ≤ x.at → x.size.weight ≤ 64 → Ok x ≡ answer_by n part
+answer_accepted {x} n part q h w = rw (q, not_true (ltb x.at n) (λ t. omega (arith, ltb→lt x.at n t)), not_true (ltb 64 x.size.weight) (λ t. omega (arith, ltb→lt 64 x.size.weight t))) refl

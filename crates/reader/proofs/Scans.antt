@@ -7,13 +7,23 @@ use mathlib.Core.List.{List, ◌∷◌}
 use native.Mathlib.Omega.{arith}
 use lib.ListN.{drop}
 use lib.Dec.{leb, leb→le}
-use Rattle.grammar.specs.Grammar.{Digits, digits_value, Repeat, exactly, at_least, between, WfRepeat}
-use Rattle.grammar.specs.Code.Reader.{found, read_count}
+use Rattle.grammar.specs.Grammar.{Digits, digits_value, Repeat, exactly, at_least, between, Atom, WfRepeat}
+use Rattle.grammar.specs.Code.Reader.{found, missing, read_class, read_count}
 use Rattle.grammar.proofs.Pieces.{Sound, CountIs, count_sound}
 use Rattle.theory.proofs.Tests.{true_T}
-use Rattle.scanner.specs.Scanned.{Onward}
+use Rattle.std.specs.Prelude.{Option, Some, None}
+use Rattle.scanner.specs.declared.Count.{Count}
+use Rattle.scanner.specs.declared.Read.{Read}
+use Rattle.scanner.specs.Scanned.{Onward, ClassFound, CountFound}
 
 module _ (p : List ℕ) (at : ℕ) where
+  -- A class that ends at e, and no count.
+  pub class_ends : {e : ℕ} (r : Option ℕ) → r ≡ Some e → ClassFound p at r → (a : Atom) × (read_class (drop at p) ≡ found a (drop e p)) × Onward p at e
+  class_ends r e h = rw e at h
+
+  pub count_none : (r : Option (Read Count)) → r ≡ None → CountFound p at r → read_count (drop at p) ≡ missing
+  count_none r e h = rw e at h
+
   -- Counts are at most 63.
   count_formed : {s : List ℕ} (x : Repeat) → read_count (drop at p) ≡ found x s → WfRepeat x
   count_formed {s} x f = (subst (Sound (CountIs (123 ∷ drop at p))) f (count_sound (drop at p))).0

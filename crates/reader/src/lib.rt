@@ -17,7 +17,7 @@ use arrays::{Codes, Pattern};
 use lengths::Lengths;
 use refusal::{Fault, Refusal};
 use scanner::Count;
-use size::Size;
+pub use size::Size;
 
 // An accepted pattern's arrays, its brackets and how long its matches can be.
 #[derive(Drop)]

@@ -12,7 +12,7 @@ use matchers::{Spans, View};
 use reader::refusal::Refusal;
 
 // What is worked out of a pattern once, for any number of lines.
-#[derive(Drop)]
+#[derive(Clone, Copy)]
 pub struct Tables {
     // bit p of masks[b]: the set of the leaf p holds the byte b
     pub masks: [u64; 256],
@@ -37,7 +37,7 @@ pub fn tables_of(x: &Pattern) -> Tables
     ensures filled { FilledBy x.now (tables_in result) }
 {
     let follow = follow::tables_of(x);
-    let facts = facts::facts_of(follow.view(&x.masks));
+    let facts = facts::facts_of(follow.view(&x.masks).by_sets());
     Tables {
         masks: x.masks,
         follow,

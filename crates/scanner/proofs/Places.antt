@@ -2,7 +2,7 @@
 -- Assumes nothing.
 use mathlib.Core.Path.{◌≡◌, refl, sym, ◌∙◌}
 use Prim.Native.Nat.{ℕ, ◌+◌, ◌≤◌, ◌<◌}
-use mathlib.Core.Bool.{Bool, true, false}
+use mathlib.Core.Bool.{Bool, true, false, not}
 use mathlib.Core.List.{List, [], ◌∷◌}
 use native.Mathlib.Omega.{arith}
 use native.Mathlib.Decide.{dec_lt}
@@ -10,7 +10,7 @@ use native.Mathlib.Numerals.{add-one}
 use lib.ListN.{length, get_or, drop, drop_of_length-le}
 use lib.Seq.{drop-cons}
 use lib.Dec.{eqb}
-use borrow.Author.Tests.{eqb-true, eqb-false}
+use borrow.Author.Tests.{eqb-true, eqb-false, not-true, not-false}
 use Rattle.grammar.specs.Code.Codes.{first_holds}
 use Rattle.std.specs.Prelude.{Some, None}
 use Rattle.scanner.specs.Scanned.{Onward}
@@ -61,3 +61,9 @@ onward_from l o = record { forward = omega arith; inside = o.inside }
 -- What a test says that a function's answer is: r is the answer, and x what it stands for.
 pub seen : {r x y : Bool} → r ≡ x → r ≡ y → x ≡ y
 seen e t = sym e ∙ t
+
+pub unseen : {r x : Bool} → r ≡ x → not r ≡ true → x ≡ false
+unseen {r} e t = sym e ∙ not-true r t
+
+pub still_seen : {r x : Bool} → r ≡ x → not r ≡ false → x ≡ true
+still_seen {r} e t = sym e ∙ not-false r t

@@ -3,8 +3,10 @@
 use mathlib.Core.Path.{◌≡◌, refl, sym, ap, ◌∙◌, subst}
 use mathlib.Core.Bool.{Bool, false}
 use Prim.Native.Nat.{ℕ, zero, suc, ◌+◌, ◌-◌, ◌≤◌, ◌<◌}
-use mathlib.Core.List.{List}
+use mathlib.Core.List.{List, [], ◌∷◌}
 use native.Mathlib.Omega.{arith}
+use types.Run.{OneOf}
+use denote.Enum.Declared.{tag_of}
 use Rattle.std.proofs.Common.{Ok, Err}
 use lib.ListN.{length, get_or, take}
 use lib.Seq.{take_at}
@@ -25,6 +27,9 @@ use Rattle.records.specs.Packing.{Unpacked}
 use Rattle.verdict.specs.Code.Held.{held}
 use Rattle.table.specs.Slots.{slot_count, loaded}
 use Rattle.table.proofs.Laws.{slot_there}
+use Rattle.search.specs.declared.Progress.{Progress}
+use Rattle.search.specs.declared.Progress.TheVariants.{Clear}
+use Rattle.search.specs.contracts.Progress.{the_type}
 use Rattle.search.specs.declared.Stop.{Stop}
 use Rattle.search.specs.declared.Stop.TheVariants.{Witness, Full}
 use Rattle.search.specs.declared.Looking.{Looking}
@@ -34,6 +39,13 @@ use Rattle.search.specs.Ends.{AllFound}
 use Rattle.search.specs.Turns.{Searching, Working, Slotted, Within, Grouping, progress_of, course_of, CameTo, Turned, Worked, Run}
 use Rattle.search.proofs.Looks.{all_inside, slot_record}
 use Rattle.search.proofs.Turns.{passed_turn, next_record, all_found}
+
+-- What is told where an answer is neither of the other cases.
+pub not_clear : {p : Progress} → OneOf (1 ∷ 2 ∷ []) (tag_of the_type p) → (j : ℕ) → p ≡ Clear j → ⊥
+not_clear h j e = either (λ x. go x) (λ x. go x) (subst (λ q. OneOf (1 ∷ 2 ∷ []) (tag_of the_type q)) e h)
+  where
+    go : {n : ℕ} → 0 ≡ suc n → ⊥
+    go x = omega arith
 
 -- A search that has ended is where it is, whatever would hold of one that goes on.
 pub stopped : (r : Re) (t₀ t : List ℕ) (y : Looking) (P Q : ℕ → Type 0) (e : Stop) (n : ℕ) → CameTo r t₀ t y P (progress_of (Err e) n) → CameTo r t₀ t y Q (progress_of (Err e) n)

@@ -67,6 +67,10 @@ read_ended f g l i e a = rw (sym (take-append-drop i l)) (read_append f g g (tak
 pub read_turn : (f g h : Front) (l : List ℕ) (i : ℕ) → i < length l → Read f (take i l) g → Read g (get_or l i 0 ∷ []) h → Read f (take (i + 1) l) h
 read_turn f g h l i k a b = rw (take_more l i 0 k) (read_append f g h (take i l) (get_or l i 0 ∷ []) a b)
 
+-- An end.
+pub read_end_lem : (f : Front) → Sound f → f.ends ≡ false → Read f (0 ∷ []) (record { list = f.list; n = f.n; seen = f.seen; ends = true })
+read_end_lem f s e = record { sound = record { long = s.long; size = s.size; marked = s.marked; below = s.below; apart = s.apart }; order = rw e; ended = rw e }
+
 -- One leaf more.
 module _ (f : Front) (p : ℕ) (s : Sound f) (h : p < 64) (e : f.ends ≡ false) where
   module _ (b : has_bit f.seen p ≡ false) where

@@ -10,7 +10,7 @@ ghost use Rattle.starts.specs.Blocks.{Sized, first_of, Without, Stored, On, OnBl
 ghost use Rattle.starts.specs.Opens.{Watched, Opened};
 
 use facts::FactsView;
-use follow::TablesView;
+use follow::SetsView;
 use seeking::{Alike, How, Wanted};
 
 // A span of a line.
@@ -166,7 +166,7 @@ impl Blocks {
         from: usize,
         found: Span,
         ending: u64,
-        tables: TablesView,
+        tables: SetsView,
     ) -> Span
         requires { Sized self.old × (self.old.n ≤ 64) }
         ensures { Finished tables.entry.masks.now tables.entry.sets.now line.now ending from self.old found result }
@@ -177,7 +177,15 @@ impl Blocks {
                 return best;
             }
             if self.n == 1 {
-                return match ends::last_end(line, i, self.sets[0], None, ending, tables) {
+                return match ends::last_end(
+                    line,
+                    i,
+                    self.sets[0],
+                    None,
+                    ending,
+                    tables.masks,
+                    tables.sets,
+                ) {
                     Some(end) => Span {
                         start: self.starts[0],
                         end,
@@ -207,7 +215,7 @@ fn is_still(i: usize, before: First, after: First) -> bool
 
 // The first start from a place on that has an end, with its last one, by blocks. The loop is no `for`: a turn goes past a whole run of bytes. Tables and facts are two
 // arguments: the struct that has both is of the crate above, which cuts lines.
-fn search(line: &[u8], from: usize, tables: TablesView, facts: FactsView) -> Option<Span>
+fn search(line: &[u8], from: usize, tables: SetsView, facts: FactsView) -> Option<Span>
     ensures { Searched tables.entry.masks.now tables.entry.sets.now facts.entry.next.now line.now from result }
 {
     let masks = tables.masks;
@@ -240,10 +248,18 @@ fn search(line: &[u8], from: usize, tables: TablesView, facts: FactsView) -> Opt
 }
 
 // The same where mostly a match begins at the place itself: then no block is kept.
-fn span_from(line: &[u8], from: usize, tables: TablesView, facts: FactsView) -> Option<Span>
+fn span_from(line: &[u8], from: usize, tables: SetsView, facts: FactsView) -> Option<Span>
     ensures { Searched tables.entry.masks.now tables.entry.sets.now facts.entry.next.now line.now from result }
 {
-    match ends::last_end(line, from, tables.sets[0], None, facts.ending(), tables) {
+    match ends::last_end(
+        line,
+        from,
+        tables.sets[0],
+        None,
+        facts.ending(),
+        tables.masks,
+        tables.sets,
+    ) {
         Some(end) => Some(Span { start: from, end }),
         None => search(line, from, tables, facts),
     }
@@ -268,7 +284,8 @@ fn watch(line: &[u8], i: usize, stop: usize, ends: Wanted) -> Option<usize>
 
 // Of a pattern that does not match the empty line: a place before which no match begins, if there is a match. One set has all leaves that any start wants.
 // The loop is no `for`: a turn goes past a whole run of bytes, or to the next byte that begins a match.
-fn first_open(line: &[u8], tables: TablesView, facts: FactsView) -> Option<usize>
+#[inline(always)]
+fn first_open(line: &[u8], tables: SetsView, facts: FactsView) -> Option<usize>
     ensures { Opened tables.entry.masks.now tables.entry.sets.now facts.entry.next.now (how_at facts.entry.hows.now 0) (how_at facts.entry.hows.now 5) line.now result }
 {
     let masks = tables.masks;
@@ -277,12 +294,16 @@ fn first_open(line: &[u8], tables: TablesView, facts: FactsView) -> Option<usize
         how: facts.begins(),
         masks,
     };
+    let mut base = seeking::seek(line, 0, begins);
+    // in most lines no byte begins a match: then nothing more is looked up
+    if line.len() <= base {
+        return None;
+    }
     let ends = Wanted {
         set: facts.ending(),
         how: facts.closes(),
         masks,
     };
-    let mut base = seeking::seek(line, 0, begins);
     let mut i = base;
     let mut stop = base;
     let mut set = 0;
@@ -305,13 +326,22 @@ fn first_open(line: &[u8], tables: TablesView, facts: FactsView) -> Option<usize
     None
 }
 
-// The POSIX span of a line. A pattern that matches the empty line begins at the first place.
-pub fn posix_span(line: &[u8], tables: TablesView, facts: FactsView) -> Option<Span>
+// The POSIX span of a line. A pattern that matches the empty line begins at the first place. Short lines are many: the call takes as long as what is done in it.
+#[inline(always)]
+pub fn posix_span(line: &[u8], tables: SetsView, facts: FactsView) -> Option<Span>
     ensures found { Found tables.entry.masks.now tables.entry.sets.now tables.entry.ends.now (facts_in facts.entry) line.now result }
 {
     if tables.ends[0] == 1 {
         let first = tables.sets[0];
-        let last = ends::last_end(line, 0, first, Some(0), facts.ending(), tables);
+        let last = ends::last_end(
+            line,
+            0,
+            first,
+            Some(0),
+            facts.ending(),
+            tables.masks,
+            tables.sets,
+        );
         return Some(Span {
             start: 0,
             end: last.unwrap_or(0),

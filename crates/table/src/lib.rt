@@ -5,6 +5,8 @@ ghost use Rattle.std.specs.Prelude.{◌≡◌, ◌+◌, ◌≤◌, min, length, 
 ghost use Rattle.table.specs.Slots.{slot_count, slot_at, put, loaded, origin_at, byte_at};
 ghost use Rattle.table.specs.Looks.{first_unequal, comparison_end, look, place_below};
 
+pub mod count;
+
 // The slots of a table, for records of so many bytes.
 #[derive(Clone, Copy)]
 pub struct Slots<'a> {
@@ -49,14 +51,11 @@ fn comparison_end(u: &[u8], v: &[u8]) -> Option<usize>
 }
 
 impl<'a> Slots<'a> {
-    // How many slots there are: none if no record has that width.
+    // How many slots there are.
     pub fn count(self) -> usize
         ensures slots { result ≡ slot_count self.entry.width (length self.entry.bytes.now) }
     {
-        if !(13..=64).contains(&self.width) {
-            return 0;
-        }
-        self.bytes.len() / self.width
+        count::slots(self.bytes.len(), self.width)
     }
 
     // The bytes of slot k, if the table has it.

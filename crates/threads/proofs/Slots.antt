@@ -1,4 +1,4 @@
--- The slots: one is stamped place by place, and moved.
+-- The slots: one is stamped place by place, and moved, and the last is handed over.
 -- Assumes nothing.
 use mathlib.Core.Path.{◌≡◌, refl, ◌∙◌}
 use mathlib.Core.Option.{none, some}
@@ -11,8 +11,13 @@ use lib.Seq.{get_or-set_same, get_or-set_other}
 use borrow.Author.Count.{below_more}
 use Rattle.words.specs.Sets.{has_bit}
 use Rattle.words.proofs.Bits.{or_bit}
+use Rattle.std.specs.Prelude.{None, Some}
+use Rattle.std.specs.Prelude as Std
+use Rattle.traces.specs.Code.Pass.{Values}
 use Rattle.threads.specs.declared.Slot.{Slot}
-use Rattle.threads.specs.Slots.{slot, Stamped, Moved}
+use Rattle.threads.specs.declared.Way.{Way}
+use Rattle.threads.specs.Ways.{HoldsValues}
+use Rattle.threads.specs.Slots.{slot, Holds, Stamped, Moved}
 
 -- The first j places are stamped, and no other is changed.
 pub record StampedBefore (m n : ℕ) (old new : List ℕ) (j : ℕ) : Type 0 where
@@ -48,3 +53,39 @@ stamped_moved {from} {to} {m} {n} x {b} t s = record {
     merged true false x z = refl
     merged false true x z = refl
     merged false false x z = refl
+
+-- The first j places of slot 128 are copied.
+pub record Copied (x : List Slot) (places : List ℕ) (j : ℕ) : Type 0 where
+  pub long : length places ≡ 16
+  pub done : (i : ℕ) → i < j → get_or places i 0 ≡ get_or (slot x 128).places i 0
+
+-- The way ends there, with the values of slot 128,
+pub record OfBest (x : List Slot) (e : ℕ) (w : Way) : Type 0 where
+  pub end : w.end ≡ e
+  pub holds : {v : Values} → Holds x 128 v → HoldsValues w.places w.known v
+
+-- and is the best one, if there is one.
+abbrev pub HandedOver : List Slot → Std.Option ℕ → Std.Option Way → Type 0
+HandedOver x None None = Unit {0}
+HandedOver x None (Some w) = ⊥
+HandedOver x (Some e) None = ⊥
+HandedOver x (Some e) (Some w) = OfBest x e w
+
+-- The way with these places that ends there, if one does.
+abbrev pub way_with : Std.Option ℕ → ℕ → List ℕ → Std.Option Way
+way_with None known places = None
+way_with (Some e) known places = Some (record { end = e; known = known; places = places })
+
+module _ {x : List Slot} {places : List ℕ} where
+  pub copied_none : length places ≡ 16 → Copied x places 0
+  copied_none long = record { long = long; done = λ i h. absurd (omega arith) }
+
+  pub copied_more : {j : ℕ} → Copied x places j → j < 16 → Copied x (set places j (get_or (slot x 128).places j 0)) (j + 1)
+  copied_more {j} s h = record {
+    long = length-set places j _ ∙ s.long;
+    done = below_more _ j (λ i k. get_or-set_other places j i _ 0 (λ e. omega arith) ∙ s.done i k) (get_or-set_same places j _ 0 (omega (arith, s.long)));
+  }
+
+  pub copied_all : (best : Std.Option ℕ) {j : ℕ} → Copied x places j → 16 ≤ j → HandedOver x best (way_with best (slot x 128).known places)
+  copied_all None s all = tt
+  copied_all (Some e) s all = record { end = refl; holds = λ h i k. rw (s.done i (omega arith)) (h.at i k) }

@@ -9,7 +9,7 @@ ghost use Rattle.threads.specs.Slots.{Stamped, Moved, handed_over};
 ghost use Rattle.threads.specs.Reads.{Sound, LeafEntered};
 ghost use Rattle.threads.specs.Steps.{RowRead, LeafRead, Stepped, Passed};
 
-use follow::TablesView;
+use follow::RowsView;
 
 // The way that is preferred. places[f - 1] is where it last opened the field f and places[f + 7] where it last closed it, each if its bit in `known` is 1.
 // A mask and sixteen numbers, and no Options: callers in C are handed them so, and one mask takes in all fields of an outcome.
@@ -104,14 +104,7 @@ impl State {
     }
 
     // The outcomes of row k in order, by the way of the slot `from`, up to the first end.
-    fn read_row(
-        &mut self,
-        k: usize,
-        from: usize,
-        turn: Turn,
-        tables: TablesView,
-        marks: &[u16; 4225],
-    )
+    fn read_row(&mut self, k: usize, from: usize, turn: Turn, tables: RowsView, marks: &[u16; 4225])
         requires { Sound self.old × (self.old.ended ≡ false) × (k ≤ 64) × (from < 129) × (turn.side ≤ 1) }
         ensures { RowRead tables.entry.rows.now tables.entry.lens.now marks.now k from turn.side turn.place self.old self.new }
     {
@@ -130,14 +123,7 @@ impl State {
     }
 
     // The outcomes after a byte of the leaf p, where the mask is the byte's.
-    fn read_leaf(
-        &mut self,
-        p: usize,
-        mask: u64,
-        turn: Turn,
-        tables: TablesView,
-        marks: &[u16; 4225],
-    )
+    fn read_leaf(&mut self, p: usize, mask: u64, turn: Turn, tables: RowsView, marks: &[u16; 4225])
         requires { Sound self.old × (self.old.ended ≡ false) × (turn.side ≤ 1) }
         ensures { LeafRead tables.entry.rows.now tables.entry.lens.now marks.now mask p turn.side turn.place self.old self.new }
     {
@@ -147,7 +133,7 @@ impl State {
     }
 
     // The same of all leaves in order, up to the first end. The list is read from a copy, and the new leaves are put in its place.
-    fn step(&mut self, mask: u64, turn: Turn, tables: TablesView, marks: &[u16; 4225])
+    fn step(&mut self, mask: u64, turn: Turn, tables: RowsView, marks: &[u16; 4225])
         requires { Sound self.old × (turn.side ≤ 1) }
         ensures { Stepped tables.entry.rows.now tables.entry.lens.now marks.now mask turn.side turn.place self.old self.new }
     {
@@ -170,7 +156,7 @@ impl State {
         line: &[u8],
         start: usize,
         best: Option<usize>,
-        tables: TablesView,
+        tables: RowsView,
         marks: &[u16; 4225],
     ) -> Option<usize>
         requires { Sound self.old }
@@ -208,7 +194,7 @@ fn way_of(best: Option<usize>, slots: &[Slot; 129]) -> Option<Way>
 }
 
 // From the start on, to the line's end or until no leaf is wanted: the last way that ended, by the tables of a pattern and the masks of its fields.
-pub fn first_way(line: &[u8], start: usize, tables: TablesView, marks: &[u16; 4225]) -> Option<Way>
+pub fn first_way(line: &[u8], start: usize, tables: RowsView, marks: &[u16; 4225]) -> Option<Way>
     ensures led { Led tables.entry.masks.now tables.entry.rows.now tables.entry.lens.now marks.now line.now start result }
 {
     let mut state = State {

@@ -130,8 +130,8 @@ impl From<lengths::Lengths> for Lengths {
             number: ACCEPTED,
             place: 0,
             least: x.least,
-            limited: usize::from(x.greatest.is_some()),
-            greatest: x.greatest.unwrap_or(0),
+            limited: usize::from(x.is_limited()),
+            greatest: x.limit(),
         }
     }
 }

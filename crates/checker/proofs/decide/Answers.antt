@@ -11,9 +11,9 @@ returns-in-Err c = decides_short (rw c.at.ensures.refusal at c.without_look.ensu
 pub returns-in-Ok-Passes : goal.returns-in-Ok-Passes
 returns-in-Ok-Passes c =
     let view = c.view-tables.ensures in
-    decides_passes c.requires c.tables_of-own.ensures.right c.view-tables.result view.masks view.tables c.without_look-in-Ok-Passes.ensures (rw c.in-Ok-Passes.field-0-is at c.in-Ok-Passes.ensures.tested)
+    decides_passes c.requires c.tables_of-own.ensures.right c.view-tables.result view.masks view.tables c.without_look-in-Ok-Passes.ensures (rw (c.in-Ok-Passes.field-0-is, c.by_sets.ensures.sets) at c.in-Ok-Passes.ensures.tested)
 
 pub returns-in-Ok-Fails : goal.returns-in-Ok-Fails
 returns-in-Ok-Fails c =
     let view = c.view-tables.ensures in
-    decides_fails c.requires c.tables_of-own.ensures.right c.view-tables.result view.masks view.tables c.width-width.ensures.width (rw c.in-Ok-Fails.field-0-is at c.in-Ok-Fails.ensures.tested) c.by_records.ensures
+    decides_fails c.requires c.tables_of-own.ensures.right c.view-tables.result view.masks view.tables c.width-width.ensures.width (rw (c.in-Ok-Fails.field-0-is, c.by_sets.ensures.sets) at c.in-Ok-Fails.ensures.tested) c.by_records.ensures

@@ -6,7 +6,7 @@ use Rattle.ends.proofs.Lasts.{Lasting}
 use Rattle.ends.proofs.last_end.Given as goal
 
 abbrev pub invariant-loop-i : goal.invariant-loop-i
-invariant-loop-i l = Lasting l.masks l.tables.sets.now l.line l.ending l.from l.initial.set l.initial.last l.i l.set l.last
+invariant-loop-i l = Lasting l.masks l.sets l.line l.ending l.from l.initial.set l.initial.last l.i l.set l.last
 
 abbrev pub decreases-loop-i : goal.decreases-loop-i
 decreases-loop-i l = length l.line - l.i

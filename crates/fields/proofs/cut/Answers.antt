@@ -5,7 +5,7 @@ use Rattle.fields.proofs.Cutting.{cut_none, cut_some}
 use Rattle.fields.proofs.cut.Goals as goal
 
 pub returns-in_err-posix : goal.returns-in_err-posix
-returns-in_err-posix c = record { cuts = rw c.from_residual.ensures (cut_none (λ i. omega (arith, c.type_inv.line i)) c.in_err-posix.ensures.found) }
+returns-in_err-posix c = record { cuts = rw c.from_residual.ensures (cut_none (λ i. omega (arith, c.type_inv.line i)) (rw c.by_sets.ensures.sets at c.in_err-posix.ensures.found)) }
 
 pub returns : goal.returns
-returns c = record { cuts = rw c.unwrap_or-way.ensures (cut_some (λ i. omega (arith, c.type_inv.line i)) c.first_way-way.result _ c.in_ok-posix.ensures.found c.first_way-way.ensures.led) }
+returns c = record { cuts = rw c.unwrap_or-way.ensures (cut_some (λ i. omega (arith, c.type_inv.line i)) c.first_way-way.result _ (rw c.by_sets.ensures.sets at c.in_ok-posix.ensures.found) (rw c.by_rows.ensures.rows at c.first_way-way.ensures.led)) }

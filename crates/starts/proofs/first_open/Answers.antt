@@ -26,3 +26,7 @@ loop-i-preserved c =
 
 pub returns : goal.returns
 returns c = rw (← c.begins.ensures.begins, ← c.closes.ensures.closes) (opening_end c.loop-i.invariant (omega arith))
+
+-- No byte begins a match.
+pub returns-then-line-base : goal.returns-then-line-base
+returns-then-line-base c = rw (← c.begins.ensures.begins) (opening_end (opening_begin c.seek-base.ensures.sought) (omega arith))

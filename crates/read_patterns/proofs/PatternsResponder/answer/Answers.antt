@@ -6,7 +6,7 @@ use Rattle.read_patterns.proofs.PatternsResponder.answer.Goals as goal
 pub returns-in-Ok : goal.returns-in-Ok
 returns-in-Ok c =
     let l = c.accepted.ensures.printed in
-    (l.0, told_accepted (rw c.fixed.ensures.fixed at c.in-Ok.ensures.right) l.1, l.2, l.3)
+    (l.0, told_accepted (rw c.fixed.ensures.fixed at c.in-Ok.ensures.right) l.1, omega (arith, l.2), l.3)
 
 pub returns-in-Err : goal.returns-in-Err
 returns-in-Err c =

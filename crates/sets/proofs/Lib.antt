@@ -1,0 +1,2 @@
+-- The checks of an entry: what tests of two parts say.
+pub mod Passing
