@@ -14,6 +14,8 @@ use Rattle.grammar.specs.Refusals as Due
 use Rattle.traces.specs.Fields.{Field, absent, field_from, field_at}
 use Rattle.traces.specs.Code.Marks.{Marks}
 use Rattle.words.specs.Sets.{has_bit}
+use Rattle.starts.specs.declared.Span as Starts
+use Rattle.starts.specs.Spans.{Found}
 use Rattle.matchers.specs.Tables.{Tables, Ready}
 use Rattle.reader.specs.declared.refusal.Refusal.{Refusal}
 use Rattle.reader.specs.Numbers.{number_of}
@@ -40,6 +42,10 @@ field_in (Some x) f = field_from (place_in x f) (place_in x (max_fields + f))
 pub record IsCut (r : Re) (w : List ℕ) (x : Option Piece) : Type 0 where
   pub greedily : span_in x ≡ greedy r w
   pub fields : (f : ℕ) → f < max_fields → field_in x f ≡ field_at r w (suc f)
+
+-- The POSIX span of the line w is found by lent tables.
+abbrev pub FoundBy : Tables → List ℕ → Option Starts.Span → Type 0
+FoundBy t w x = Found t.arrays.masks t.arrays.sets t.arrays.ends t.facts w x
 
 -- For the pattern whose tables and masks are lent.
 pub record Cuts (t : Tables) (marks w : List ℕ) (x : Option Piece) : Type 0 where

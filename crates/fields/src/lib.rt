@@ -1,15 +1,17 @@
 // The fields of the greedy span (request 2): what each bracket of a pattern takes from a line. For many lines with one pattern: `prepare` once, then `cut` for each.
 #![tactic(auto)]
 
+ghost use Rattle.std.specs.Prelude.{Some};
 ghost use Rattle.arrays.specs.Decoded.{decode};
 ghost use Rattle.follow.specs.Rows.{Marked};
 ghost use Rattle.matchers.specs.Tables.{tables_of};
-ghost use Rattle.fields.specs.Cuts.{Cuts, Prepares, Replied};
+ghost use Rattle.fields.specs.Cuts.{FoundBy, Cuts, Prepares, Replied};
 
 use arrays::Pattern;
 use matchers::View;
 use reader::refusal::{Fault, Refusal};
 use readings::Tables;
+use starts::Span;
 use threads::Way;
 
 // The greedy span of a line and its fields: field f begins at places[f - 1] and ends at places[f + 7], if bits f - 1 and f + 7 of `known` are 1, and is absent if they
@@ -68,20 +70,27 @@ const NO_WAY: Way = Way {
     places: [0; 16],
 };
 
+// The greedy span and its fields, once the POSIX span is found. By itself: what is large here is cleared where the function begins, and so for no line without a match.
+fn piece_at(line: &[u8], posix: Span, view: View, marks: &[u16; 4225]) -> Piece
+    ensures { FoundBy (tables_of view.entry) line.now (Some posix) → Cuts (tables_of view.entry) marks.now line.now (Some result) }
+{
+    let way = threads::first_way(line, posix.start, view.tables.by_rows(), marks);
+    let way = way.unwrap_or(NO_WAY);
+    let places = way.places;
+    Piece {
+        start: posix.start,
+        end: way.end,
+        known: way.known,
+        places,
+    }
+}
+
 // The greedy span of a line of any length and its fields, by the tables of an accepted pattern: the leftmost start, and from it the most preferred way.
 pub fn cut(line: &[u8], view: View, marks: &[u16; 4225]) -> Option<Piece>
     ensures cuts { Cuts (tables_of view.entry) marks.now line.now result }
 {
     let posix = starts::posix_span(line, view.tables.by_sets(), view.facts)?;
-    let way = threads::first_way(line, posix.start, view.tables.by_rows(), marks);
-    let way = way.unwrap_or(NO_WAY);
-    let places = way.places;
-    Some(Piece {
-        start: posix.start,
-        end: way.end,
-        known: way.known,
-        places,
-    })
+    Some(piece_at(line, posix, view, marks))
 }
 
 // Reads a pattern, and cuts a line by it. Table of named sets and pattern are two parameters, as they are the reader's.

@@ -32,6 +32,11 @@ impl Groups {
         requires { (b < 256) × GroupedTo masks.now b self.old }
         ensures { GroupedTo masks.now (b + 1) self.new }
     {
+        // Mostly the byte before has the same mask: no other is looked for then.
+        if b > 0 && masks[b - 1] == masks[b] {
+            self.group[b] = self.group[b - 1];
+            return;
+        }
         match first_with(masks, b) {
             Some(first) => {
                 self.group[b] = self.group[first];

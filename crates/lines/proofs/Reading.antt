@@ -1,20 +1,23 @@
 -- A line while it is read from a chunk: what is kept of it goes on.
 -- Assumes nothing.
-use mathlib.Core.Path.{◌≡◌, sym, ap, ◌∙◌}
-use mathlib.Core.Bool.{true, false}
+use mathlib.Core.Path.{◌≡◌, refl, sym, ap, ◌∙◌}
+use mathlib.Core.Bool.{Bool, true, false}
 use mathlib.Core.List.{List, [], ◌++◌}
 use Prim.Native.Nat.{ℕ, ◌+◌, ◌-◌, ◌≤◌, min}
 use native.Mathlib.Omega.{arith}
 use lib.ListN.{length, take, drop, length-take, drop_of_length-le}
-use lib.Dec.{eqb}
+use lib.Dec.{eqb, ltb}
 use borrow.Rule.Slice.PartMut.{put_mid}
-use Rattle.std.specs.Prelude.{None, Some}
+use Rattle.std.specs.Prelude.{Option, None, Some}
 use Rattle.std.specs.List.{position}
+use Rattle.std.proofs.lemmas.Bool.{ltb-false}
 use Rattle.std.proofs.lemmas.List.{drop-drop}
+use Rattle.std.proofs.lemmas.Option.{none-some}
 use Rattle.std.proofs.lemmas.Slice.{take-put_mid}
+use Rattle.lines.specs.declared.Place.{Place}
 use Rattle.lines.specs.declared.Input.{Input}
 use Rattle.lines.specs.Lines.{kept, rest, begun, NextLine}
-use Rattle.lines.specs.Steps.{Kept}
+use Rattle.lines.specs.Steps.{newline_in, Kept, end_here, Stands, PassLine}
 use Rattle.lines.proofs.Laws.{take_room, at_newline, no_newline, not_ended}
 
 -- What there is room for joins the first n bytes.
@@ -62,3 +65,46 @@ module _ {s r : Input} where
         chunk = ap (λ c. c.bytes) f;
         source = g;
       }
+
+-- Where a chunk is read up to a place, behind a line of which nothing is kept.
+abbrev passed : Input → ℕ → Input
+passed s i = record { chunk = record { bytes = s.chunk.bytes; at = i; end = s.chunk.end }; line = record { bytes = s.line.bytes; n = s.line.n; whole = true }; source = s.source }
+
+-- Where all of the next line stands in the chunk, no line has begun, and a newline is there.
+stands_here : (s : Input) {i : ℕ} → end_here s ≡ Some i → (begun s.line ≡ []) × (newline_in (rest s.chunk) ≡ Some i)
+stands_here s {i} e = go s.line.whole refl (ltb 0 s.line.n) refl
+  where
+    nothing : s.line.n ≤ 0 → s.line.n ≡ 0
+    nothing h = omega arith
+
+    go : (w : Bool) → s.line.whole ≡ w → (b : Bool) → ltb 0 s.line.n ≡ b → (begun s.line ≡ []) × (newline_in (rest s.chunk) ≡ Some i)
+    go true p b q = (rw p refl, rw p at e)
+    go false p true q = absurd (none-some i (rw (p, q) at e))
+    go false p false q = (rw (p, nothing (ltb-false 0 s.line.n q)) refl, rw (p, q) at e)
+
+-- The line stands in the chunk,
+pub passed_here : (s : Input) {i : ℕ} → end_here s ≡ Some i → PassLine s (Some (Place.Chunk s.chunk.at i)) (passed s (s.chunk.at + i + 1))
+passed_here s {i} e =
+    let (b, n) = stands_here s e in
+    let (_, u, v, w) = at_newline (rest s.chunk) i n in
+    let far : s.chunk.at + (i + 1) ≡ s.chunk.at + i + 1 = omega arith in
+    record {
+      stands = (v, rw (b, u) refl);
+      whole = sym v;
+      left = ap (λ k. drop k (take s.chunk.end s.chunk.bytes)) (sym far) ∙ sym (w ∙ drop-drop (i + 1) s.chunk.at (take s.chunk.end s.chunk.bytes));
+      onward = λ j. omega arith;
+      end = refl;
+      chunk = refl;
+      source = refl;
+    }
+
+module _ {s r : Input} (n : NextLine s r) where
+  -- or it is kept.
+  passed_to : {p : Option Place} → Stands s p r → PassLine s p r
+  passed_to h = record { stands = h; whole = n.whole; left = n.left; onward = n.onward; end = n.end; chunk = n.chunk; source = n.source }
+
+  pub passed_kept : r.line.whole ≡ true → PassLine s (Some Place.Kept) r
+  passed_kept h = passed_to (sym n.whole ∙ h, n.bytes)
+
+  pub passed_part : r.line.whole ≡ false → PassLine s None r
+  passed_part h = passed_to (sym n.whole ∙ h, n.bytes)

@@ -9,11 +9,14 @@ use native.Mathlib.Omega.{arith}
 use lib.Dec.{leb}
 use borrow.Author.Tests.{leb-true}
 use lib.ListN.{length, take, length-append}
+use Rattle.std.specs.Prelude.{None, Some}
 use Rattle.printing.specs.Text.{Prints}
 use Rattle.printing.proofs.Laws.{fits}
 use Rattle.printing.specs.declared.Output.{Output}
+use Rattle.lines.specs.declared.Place.{Place}
 use Rattle.lines.specs.declared.Input.{Input}
-use Rattle.lines.specs.Lines.{rest, held, begun, NextLine}
+use Rattle.lines.specs.Lines.{up_to, ended, past, kept, rest, held, begun, NextLine}
+use Rattle.lines.specs.Steps.{text_at, PassLine}
 use Rattle.lines.specs.Answers.{Answers, none, next, part, Served}
 use Rattle.lines.proofs.Laws.{not_ended}
 
@@ -31,34 +34,53 @@ module _ {S : Type 0} {A : S → List ℕ → List ℕ → S → Type 0} {s : In
   pub serving_first : Serving A s o x s o x
   serving_first = record { text = []; answers = none; waits = sym (append-nil (take o.used o.bytes)); used = omega arith; chunk = refl; source = refl }
 
-  module _ {r t : Input} {p : Output} {y : S} (g : Serving A s o x r p y) (n : NextLine r t) where
+  module _ {r t : Input} {p : Output} {y : S} (g : Serving A s o x r p y) where
     -- A line is whole, and its answer joins what waits.
-    pub serving_next : {q : Output} {k : ℕ} {z : S} → t.line.whole ≡ true → Prints k (λ w. A y (held t.line) w z) p q → true ≡ leb (p.used + k) 65536
-        → Serving A s o x t q z
-    serving_next {q} {k} e (w, a, size, added) h =
+    serving_whole : {l : List ℕ} {q : Output} {k : ℕ} {z : S} → ended (rest r.chunk) ≡ true → l ≡ kept (begun r.line ++ up_to (rest r.chunk)) → t.line.whole ≡ true
+        → rest t.chunk ≡ past (rest r.chunk) → t.chunk.bytes ≡ r.chunk.bytes → t.source ≡ r.source
+        → Prints k (λ w. A y l w z) p q → true ≡ leb (p.used + k) 65536 → Serving A s o x t q z
+    serving_whole {q = q} {k} ends bytes e left chunk source (w, a, size, added) h =
         let room = leb-true (p.used + k) 65536 (sym h) in
         let (m, text) = fits added (omega arith) in
         record {
           text = g.text ++ w;
-          answers = rw (e, n.left) (next g.answers (sym n.whole ∙ e) (rw n.bytes at a));
+          answers = rw (e, left) (next g.answers ends (rw bytes at a));
           waits = text ∙ ap (λ l. l ++ w) g.waits ∙ append_assoc (take o.used o.bytes) g.text w;
           used = omega (arith, g.used, length-append g.text w);
-          chunk = n.chunk ∙ g.chunk;
-          source = n.source ∙ g.source;
+          chunk = chunk ∙ g.chunk;
+          source = source ∙ g.source;
         }
 
     -- The chunk ends before the line does.
-    pub serving_part : t.line.whole ≡ false → Serving A s o x t p y
-    serving_part e =
-        let (u, v) = not_ended (rest r.chunk) (sym n.whole ∙ e) in
+    serving_begun : ended (rest r.chunk) ≡ false → held t.line ≡ kept (begun r.line ++ up_to (rest r.chunk)) → t.line.whole ≡ false
+        → rest t.chunk ≡ past (rest r.chunk) → t.chunk.bytes ≡ r.chunk.bytes → t.source ≡ r.source → Serving A s o x t p y
+    serving_begun ends bytes e left chunk source =
+        let (u, v) = not_ended (rest r.chunk) ends in
         record {
           text = g.text;
-          answers = rw (e, n.bytes, n.left, u, v) (part g.answers (sym n.whole ∙ e));
+          answers = rw (e, bytes, left, u, v) (part g.answers ends);
           waits = g.waits;
           used = g.used;
-          chunk = n.chunk ∙ g.chunk;
-          source = n.source ∙ g.source;
+          chunk = chunk ∙ g.chunk;
+          source = source ∙ g.source;
         }
+
+    -- The same of a line that is passed,
+    pub serving_passed : {b : Place} {q : Output} {k : ℕ} {z : S} → PassLine r (Some b) t → Prints k (λ w. A y (text_at t b) w z) p q → true ≡ leb (p.used + k) 65536
+        → Serving A s o x t q z
+    serving_passed n a h = let (ends, bytes) = n.stands in serving_whole ends bytes (n.whole ∙ ends) n.left n.chunk n.source a h
+
+    pub serving_goes_on : PassLine r None t → Serving A s o x t p y
+    serving_goes_on n = let (ends, bytes) = n.stands in serving_begun ends bytes (n.whole ∙ ends) n.left n.chunk n.source
+
+    -- and of one that is kept.
+    module _ (n : NextLine r t) where
+      pub serving_next : {q : Output} {k : ℕ} {z : S} → t.line.whole ≡ true → Prints k (λ w. A y (held t.line) w z) p q → true ≡ leb (p.used + k) 65536
+          → Serving A s o x t q z
+      serving_next e a h = serving_whole (sym n.whole ∙ e) n.bytes e n.left n.chunk n.source a h
+
+      pub serving_part : t.line.whole ≡ false → Serving A s o x t p y
+      serving_part e = serving_begun (sym n.whole ∙ e) n.bytes e n.left n.chunk n.source
 
   -- Nothing is left of the chunk, or there is no room.
   pub served : {r : Input} {p : Output} {y : S} {longest : ℕ} → Serving A s o x r p y → (rest r.chunk ≡ []) ⊎ (65536 < p.used + longest) → Served A longest s o x r p y

@@ -7,7 +7,7 @@ ghost use Rattle.std.specs.Prelude.{◌≡◌, ℕ, List, ◌+◌, ◌≤◌, fa
 ghost use Rattle.printing.specs.Text.{Prints};
 ghost use Rattle.lines.specs.Lines.{BeginsWith, NextLine, rest, held, goes_on, fresh, FirstLine};
 ghost use Rattle.lines.specs.Exchange.{Written, filled, has_begun, Exchanged, Took, ReadMore, finished, Finished, fault_line};
-ghost use Rattle.lines.specs.Steps.{newline_in, Kept, wants_line};
+ghost use Rattle.lines.specs.Steps.{newline_in, Kept, wants_line, from_place, end_here, text_at, PassLine};
 ghost use Rattle.lines.specs.Answers.{Served};
 
 use printing::Output;
@@ -43,6 +43,13 @@ pub struct Part {
     pub bytes: [u8; KEPT],
     pub n: usize,
     pub whole: bool,
+}
+
+// Where a whole line stands: in the chunk, up to its newline, or in what is kept of it.
+#[derive(Clone, Copy)]
+enum Place {
+    Chunk { from: usize, n: usize },
+    Kept,
 }
 
 // Where a program stands in its input.
@@ -98,11 +105,18 @@ fn newline_in(s: &[u8]) -> Option<usize>
 }
 
 impl Chunk {
+    // The bytes from a place on.
+    fn from(&self, at: usize) -> &[u8]
+        ensures { result.now ≡ from_place self.now at }
+    {
+        past_first(first_of(&self.bytes, self.end), at)
+    }
+
     // The bytes that are still to be read.
     fn rest(&self) -> &[u8]
         ensures { result.now ≡ rest self.now }
     {
-        past_first(first_of(&self.bytes, self.end), self.at)
+        self.from(self.at)
     }
 }
 
@@ -280,14 +294,50 @@ impl Input {
         }
     }
 
+    // Where the next line ends, if all of it stands in the chunk.
+    fn end_here(&self) -> Option<usize>
+        ensures { result ≡ end_here self.now }
+    {
+        if self.line.has_begun() {
+            return None;
+        }
+        newline_in(self.chunk.rest())
+    }
+
+    // The next line is passed, and where it stands is handed out, if it is whole then. As `next_line`, but that a line which stands in the chunk is not copied: most do.
+    fn pass_line(&mut self) -> Option<Place>
+        ensures { PassLine self.old result self.new }
+    {
+        if let Some(n) = self.end_here() {
+            let from = self.chunk.at;
+            self.line.whole = true;
+            self.chunk.at = from + n + 1;
+            return Some(Place::Chunk { from, n });
+        }
+        self.next_line();
+        if self.line.whole {
+            return Some(Place::Kept);
+        }
+        None
+    }
+
+    // The bytes that are kept of a line which stands there, or would be.
+    fn text(&self, place: Place) -> &[u8]
+        ensures { result.now ≡ text_at self.now place }
+    {
+        match place {
+            Place::Chunk { from, n } => first_of(first_of(self.chunk.from(from), n), KEPT),
+            Place::Kept => self.line.held(),
+        }
+    }
+
     // Answers the lines that end in the chunk, in their order, while there is room for a further answer.
     pub fn answer_lines<A: Responder>(&mut self, responder: &mut A, out: &mut Output)
         ensures served { Served A.answers A.LONGEST self.old out.old responder.old self.new out.new responder.new }
     {
         while self.chunk.at < self.chunk.end && has_room(out, responder.longest()) {
-            self.next_line();
-            if self.line.whole {
-                responder.answer(out, self.line.held());
+            if let Some(place) = self.pass_line() {
+                responder.answer(out, self.text(place));
             }
         }
     }

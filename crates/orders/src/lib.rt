@@ -1,9 +1,10 @@
 // What programs print for order lines: both spans, 'none' or a refusal (paper 01, "The programs"), or the greedy span with its fields (request 2).
 #![tactic(auto)]
 
-ghost use Rattle.std.specs.Prelude.{◌≡◌, drop};
+ghost use Rattle.std.specs.Prelude.{◌≡◌, ◌≤◌, length, drop};
 ghost use Rattle.lines.specs.Lines.{held};
 ghost use Rattle.lines.specs.Exchange.{Finished};
+ghost use Rattle.orders.specs.declared.Orders.TheVariants.{Spans, Fields};
 ghost use Rattle.orders.specs.Orders.{OrderAnswer, Answered, ForSpans, ForFields};
 
 use lines::{Input, Responder};
@@ -49,6 +50,28 @@ pub fn prepare_fields(loaded: &[u8], input: &Input, skip: usize) -> Result<Order
     Ok(Orders::Fields(own))
 }
 
+// Appends both spans of an order line that is not too long, or 'none'.
+fn answer_spans(out: &mut Output, line: &[u8], tables: &readings::Tables)
+    requires { length line.now ≤ 1024 }
+    ensures { Answered (Spans tables.now) line.now out.old out.new }
+{
+    match matchers::cut(line, tables.view()) {
+        Some(x) => out.spans(x.start, x.greedy, x.posix),
+        None => out.none(),
+    }
+}
+
+// Appends its greedy span with the fields, or 'none'. By itself: what is large here is cleared where the function begins, and so not where both spans are asked for.
+fn answer_fields(out: &mut Output, line: &[u8], own: &fields::Prepared)
+    requires { length line.now ≤ 1024 }
+    ensures { Answered (Fields own.now) line.now out.old out.new }
+{
+    match &fields::cut(line, own.tables.view(), &own.marks) {
+        Some(x) => out.fields(x.start, x.end, own.count, x.known, &x.places),
+        None => out.none(),
+    }
+}
+
 // Appends the answer to an order line.
 pub fn answer(out: &mut Output, line: &[u8], orders: &Orders)
     ensures answered { Answered orders.now line.now out.old out.new }
@@ -58,14 +81,8 @@ pub fn answer(out: &mut Output, line: &[u8], orders: &Orders)
         return;
     }
     match orders {
-        Orders::Spans(tables) => match matchers::cut(line, tables.view()) {
-            Some(x) => out.spans(x.start, x.greedy, x.posix),
-            None => out.none(),
-        },
-        Orders::Fields(own) => match fields::cut(line, own.tables.view(), &own.marks) {
-            Some(x) => out.fields(x.start, x.end, own.count, x.known, &x.places),
-            None => out.none(),
-        },
+        Orders::Spans(tables) => answer_spans(out, line, tables),
+        Orders::Fields(own) => answer_fields(out, line, own),
     }
 }
 

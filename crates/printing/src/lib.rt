@@ -4,7 +4,7 @@
 
 ghost use Rattle.std.specs.Prelude.{◌≡◌, [], ◌∷◌, ◌++◌, ◌<◌, min, take, replicate};
 ghost use Rattle.io.specs.Digits.{hex_digit_ascii};
-ghost use Rattle.printing.specs.Text.{Adds, Prints, option_of, room, hex, AlikeLine, UnlikeLine, RefusedLine, LimitText, LengthsText, AcceptedLine, Ahead, SpansLine, FieldsLine, pair_at, pairs_of, ExplainedLine, LookingText, GroupsLine, none_line};
+ghost use Rattle.printing.specs.Text.{Appended, Adds, Prints, option_of, room, hex, AlikeLine, UnlikeLine, RefusedLine, LimitText, LengthsText, AcceptedLine, Ahead, SpansLine, FieldsLine, pair_at, pairs_of, ExplainedLine, LookingText, GroupsLine, none_line};
 ghost use Rattle.printing.specs.Puts.{PutField, PutFields, PutPair, PutPairs, PutLine, Unended};
 
 // How many bytes an output has.
@@ -48,11 +48,10 @@ impl Output {
         }
     }
 
-    // The bytes of a slice, as far as they fit: one by one, since most texts are a few bytes, for which a copy of a slice takes longer. Where the text is a word of the program
-    // its bytes are put without a loop.
+    // Puts the bytes of a slice one by one, as far as they fit, and hands out how many are in use then. Most texts are a few bytes, for which a copy of a slice takes longer.
     #[inline(always)]
-    fn put(&mut self, s: &[u8])
-        ensures { Adds self.old s.now self.new }
+    fn fill(&mut self, s: &[u8]) -> usize
+        ensures { Appended self.old.bytes self.old.used s.now self.new.bytes result }
     {
         let mut end = self.used.min(SIZE);
         for &b in s {
@@ -61,7 +60,24 @@ impl Output {
                 end += 1;
             }
         }
-        self.used = end;
+        end
+    }
+
+    // The same of a text that does not fit, which is seldom: it stands in no caller's way.
+    #[inline(never)]
+    fn fill_up(&mut self, s: &[u8]) -> usize
+        ensures { Appended self.old.bytes self.old.used s.now self.new.bytes result }
+    {
+        self.fill(s)
+    }
+
+    // The bytes of a slice, as far as they fit. Where all do, that is known before the first, and a word of the program takes one test and a store or two.
+    #[inline(always)]
+    fn put(&mut self, s: &[u8])
+        ensures { Adds self.old s.now self.new }
+    {
+        let fits = s.len() <= SIZE && self.used <= SIZE - s.len();
+        self.used = if fits { self.fill(s) } else { self.fill_up(s) };
     }
 
     // What counts as in use is in the array, also where nothing is put.
@@ -71,16 +87,37 @@ impl Output {
         self.used = self.used.min(SIZE);
     }
 
-    // A word, a space and a number in decimal.
+    // Puts a word, a space and digits, and hands out how many bytes are in use then.
+    #[inline(always)]
+    fn fill_field(&mut self, word: &[u8], digits: &[u8]) -> usize
+        ensures { Appended self.old.bytes self.old.used (word.now ++ (32 ∷ digits.now)) self.new.bytes result }
+    {
+        self.used = self.fill(word);
+        self.used = self.fill(b" ");
+        self.fill(digits)
+    }
+
+    // The same where they do not fit.
+    #[inline(never)]
+    fn fill_up_field(&mut self, word: &[u8], digits: &[u8]) -> usize
+        ensures { Appended self.old.bytes self.old.used (word.now ++ (32 ∷ digits.now)) self.new.bytes result }
+    {
+        self.fill_field(word, digits)
+    }
+
+    // A word, a space and a number in decimal. Whether there is room for all of it is asked once.
     #[inline(always)]
     fn put_field(&mut self, word: &[u8], x: usize)
         ensures { PutField word.now x self.old self.new }
     {
         let mut text = [0u8; 20];
         let k = io::decimal(x as u64, &mut text);
-        self.put(word);
-        self.put(b" ");
-        self.put(&text[..k]);
+        let fits = word.len() <= SIZE - 21 && self.used <= SIZE - 21 - word.len();
+        self.used = if fits {
+            self.fill_field(word, &text[..k])
+        } else {
+            self.fill_up_field(word, &text[..k])
+        };
     }
 
     // A slice in hex: two digits for each byte.
@@ -189,7 +226,8 @@ impl Output {
         self.put_field(b"", posix);
     }
 
-    // 'greedy START END posix START END'
+    // 'greedy START END posix START END'. By itself, so that the loop over lines, of which many have no match, has the registers.
+    #[inline(never)]
     pub fn spans(&mut self, start: usize, greedy: usize, posix: usize)
         ensures printed { Prints 97 (SpansLine start greedy posix) self.old self.new }
     {
@@ -220,7 +258,8 @@ impl Output {
         }
     }
 
-    // 'greedy START END fields START END ..', where '-' stands for a bracket that takes nothing. A C caller keeps a line's fields as a mask and an array, and so they come here.
+    // 'greedy START END fields START END ..', where '-' stands for a bracket that takes nothing. A C caller keeps a line's fields as a mask and an array, and so they come here. By itself, as both spans.
+    #[inline(never)]
     pub fn fields(
         &mut self,
         start: usize,

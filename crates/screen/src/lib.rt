@@ -12,7 +12,9 @@ pub fn groups(loaded: &[u8], pattern: &[u8]) -> Result<Groups, Refusal>
     ensures shown { Shows loaded.now pattern.now result }
 {
     let reading = reader::read(loaded, pattern)?;
-    Ok(groups::groups_of(&reading.pattern.masks))
+    // of ten thousand bytes that are read no more than these are moved
+    let masks = reading.pattern.masks;
+    Ok(groups::groups_of(&masks))
 }
 
 // Replaces each byte of a line by a printable byte of its group, where there is one: both readings cut the line at the places where they cut it before. A refused

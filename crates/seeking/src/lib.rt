@@ -121,6 +121,7 @@ impl Alike<'_> {
 
 impl Wanted<'_> {
     // The first place whose byte some leaf of the set takes, or the line's end. Chunks without a byte that is looked for are passed over.
+    #[inline(always)]
     fn first(self, line: &[u8]) -> usize
         ensures { Sought self.entry.masks.now line.now self.entry.set self.entry.how 0 result }
     {
@@ -150,7 +151,8 @@ pub fn pass_if(is: bool, line: &[u8], from: usize, alike: Alike) -> usize
     from
 }
 
-// The next place from `from` on whose byte some leaf of the set takes, or the line's end.
+// The next place from `from` on whose byte some leaf of the set takes, or the line's end. Short lines are many, and what is wanted would go through memory to a call.
+#[inline(always)]
 pub fn seek(line: &[u8], from: usize, wanted: Wanted) -> usize
     ensures sought { Sought wanted.entry.masks.now line.now wanted.entry.set wanted.entry.how from result }
 {

@@ -214,7 +214,8 @@ fn is_still(i: usize, before: First, after: First) -> bool
 }
 
 // The first start from a place on that has an end, with its last one, by blocks. The loop is no `for`: a turn goes past a whole run of bytes. Tables and facts are two
-// arguments: the struct that has both is of the crate above, which cuts lines.
+// arguments: the struct that has both is of the crate above, which cuts lines. Few lines come here: the blocks are in no frame but its own.
+#[inline(never)]
 fn search(line: &[u8], from: usize, tables: SetsView, facts: FactsView) -> Option<Span>
     ensures { Searched tables.entry.masks.now tables.entry.sets.now facts.entry.next.now line.now from result }
 {
@@ -247,7 +248,8 @@ fn search(line: &[u8], from: usize, tables: SetsView, facts: FactsView) -> Optio
     None
 }
 
-// The same where mostly a match begins at the place itself: then no block is kept.
+// The same where mostly a match begins at the place itself: then no block is kept. Part of its caller, as `first_open`.
+#[inline(always)]
 fn span_from(line: &[u8], from: usize, tables: SetsView, facts: FactsView) -> Option<Span>
     ensures { Searched tables.entry.masks.now tables.entry.sets.now facts.entry.next.now line.now from result }
 {

@@ -1,11 +1,11 @@
--- `fields::cut` meets its contract: without a POSIX span there is no span, and from its start on the way is that of the greedy span.
+-- `fields::cut` meets its contract: without a POSIX span there is no span.
 -- Assumes nothing.
 use native.Mathlib.Omega.{arith}
-use Rattle.fields.proofs.Cutting.{cut_none, cut_some}
+use Rattle.fields.proofs.Cutting.{cut_none}
 use Rattle.fields.proofs.cut.Goals as goal
 
 pub returns-in_err-posix : goal.returns-in_err-posix
 returns-in_err-posix c = record { cuts = rw c.from_residual.ensures (cut_none (λ i. omega (arith, c.type_inv.line i)) (rw c.by_sets.ensures.sets at c.in_err-posix.ensures.found)) }
 
 pub returns : goal.returns
-returns c = record { cuts = rw c.unwrap_or-way.ensures (cut_some (λ i. omega (arith, c.type_inv.line i)) c.first_way-way.result _ (rw c.by_sets.ensures.sets at c.in_ok-posix.ensures.found) (rw c.by_rows.ensures.rows at c.first_way-way.ensures.led)) }
+returns c = record { cuts = c.piece_at.ensures (rw c.by_sets.ensures.sets at c.in_ok-posix.ensures.found) }

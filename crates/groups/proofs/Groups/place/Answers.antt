@@ -1,7 +1,12 @@
 -- `Groups::place` meets its contract: the byte joins the group of a lower one, or begins a group.
-use Rattle.std.proofs.Common.{sym, ◌∙◌, rules}
+use Rattle.std.proofs.Common.{sym, ◌∙◌, ◌-◌, arith, rules}
 use Rattle.groups.proofs.Turns.{lower_found, lower_none, turn_old, turn_new}
 use Rattle.groups.proofs.Groups.place.Goals as goal
+
+pub returns-then-masks-b : goal.returns-then-masks-b
+returns-then-masks-b c =
+    let a = c.args in
+    turn_old a.masks.now a.self.now a.b c.requires.0 c.requires.1 (a.b - 1) (omega arith) c.if-masks-b.true
 
 pub returns-in-Some : goal.returns-in-Some
 returns-in-Some c =
