@@ -1,5 +1,5 @@
 // Standard input by lines. Lines may have any length and hold any bytes but the newline; input and output go by chunks, so memory stays the same. A program turns
-// between two steps: it answers the lines that end in the chunk, which `next_line` finds, and exchanges what waits for the next chunk. Only `exchange` reads, and it
+// between two steps: it answers the lines that end in the chunk, which `pass_line` finds, and exchanges what waits for the next chunk. Only `exchange` reads, and it
 // writes first; `write_out` and `tell` only write. The program lends its runtime, which prints, and its reader.
 #![tactic(auto)]
 
@@ -36,8 +36,8 @@ pub struct Chunk {
     pub end: usize,
 }
 
-// The first bytes of a line, n of them. If it is whole, it is read to its newline, and the next byte begins another. One that is not whole keeps its bytes here too: there is one
-// array for both.
+// The first bytes of the line that was kept last, n of them. If `whole`, what was read last is a newline, and the next byte begins another line. One that is not whole keeps its bytes
+// here too: there is one array for both.
 #[derive(Drop)]
 pub struct Part {
     pub bytes: [u8; KEPT],

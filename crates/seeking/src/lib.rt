@@ -120,16 +120,28 @@ impl Alike<'_> {
 }
 
 impl Wanted<'_> {
+    // How many bytes without one that is looked for are passed over by chunks. Of a line shorter than a chunk, as most are, none.
+    #[inline(always)]
+    fn skipped(self, line: &[u8]) -> usize
+        ensures within { result ≤ length line.now }
+        ensures none { (k : ℕ) → k < result → among self.entry.how (slice_index line.now k) ≡ false }
+    {
+        if line.len() < CHUNK {
+            return 0;
+        }
+        match self.how {
+            How::Any => 0,
+            How::One(a) => skip::<CHUNK, _>(line, |b| b == a),
+            few => skip::<CHUNK, _>(line, |b| few.has(b)),
+        }
+    }
+
     // The first place whose byte some leaf of the set takes, or the line's end. Chunks without a byte that is looked for are passed over.
     #[inline(always)]
     fn first(self, line: &[u8]) -> usize
         ensures { Sought self.entry.masks.now line.now self.entry.set self.entry.how 0 result }
     {
-        let far = match self.how {
-            How::Any => 0,
-            How::One(a) => skip::<CHUNK, _>(line, |b| b == a),
-            few => skip::<CHUNK, _>(line, |b| few.has(b)),
-        };
+        let far = self.skipped(line);
         let nothing = Alike {
             all: self.set,
             kind: 0,

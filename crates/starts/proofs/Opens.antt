@@ -161,3 +161,7 @@ module _ {masks sets next : List ℕ} {begins closes : How} {w : List ℕ} where
     opens = λ {r} moves nexts begins closes bytes.
         sym (held_quiet r w base i (leaves_in (count r) set) inv.before inv.in_line (inv.held moves nexts begins bytes) (λ k a b. absurd (omega arith))) ∙ inv.whole moves nexts begins bytes;
   }
+
+  -- In an empty line no byte begins a match.
+  pub opened_empty : length w ≤ 0 → Opened masks sets next begins closes w None
+  opened_empty h = opening_end (opening_begin (record { more = omega arith; within = λ _. omega arith; none = λ _ _ k g l. absurd (omega arith); found = λ l _. absurd (omega arith) })) h

@@ -290,6 +290,10 @@ fn watch(line: &[u8], i: usize, stop: usize, ends: Wanted) -> Option<usize>
 fn first_open(line: &[u8], tables: SetsView, facts: FactsView) -> Option<usize>
     ensures { Opened tables.entry.masks.now tables.entry.sets.now facts.entry.next.now (how_at facts.entry.hows.now 0) (how_at facts.entry.hows.now 5) line.now result }
 {
+    // of an empty line nothing is looked up
+    if line.is_empty() {
+        return None;
+    }
     let masks = tables.masks;
     let begins = Wanted {
         set: tables.sets[0],

@@ -2,7 +2,8 @@
 -- Assumes nothing.
 use mathlib.Core.Path.{refl}
 use native.Mathlib.Omega.{arith}
-use Rattle.starts.proofs.Opens.{opening_begin, opening_jump, opening_on, opening_over, opening_end}
+use Rattle.std.proofs.lemmas.Grind.{common_steps}
+use Rattle.starts.proofs.Opens.{opened_empty, opening_begin, opening_jump, opening_on, opening_over, opening_end}
 use Rattle.starts.proofs.first_open.Goals as goal
 
 pub loop-i-init : goal.loop-i-init
@@ -30,3 +31,6 @@ returns c = rw (← c.begins.ensures.begins, ← c.closes.ensures.closes) (openi
 -- No byte begins a match.
 pub returns-then-line-base : goal.returns-then-line-base
 returns-then-line-base c = rw (← c.begins.ensures.begins) (opening_end (opening_begin c.seek-base.ensures.sought) (omega arith))
+
+pub returns-then-is_empty : goal.returns-then-is_empty
+returns-then-is_empty c = opened_empty (grind (arith, common_steps))
